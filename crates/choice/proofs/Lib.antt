@@ -1,0 +1,2 @@
+-- The law of the choice.
+pub mod ByTest

@@ -1,0 +1,7 @@
+-- The choice by a test, as every definition of this project writes it: "if b, a; else the other".
+-- It stays shut until a proof opens it, so that a law can see the test.
+use mathlib.Core.Bool.{Bool, true, false}
+
+unfoldable pub pick : {A : Type 0} → Bool → A → A → A
+pick true a b = a
+pick false a b = b

@@ -1,0 +1,2 @@
+-- The choice by a test.
+pub mod Choice

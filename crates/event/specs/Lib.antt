@@ -1,0 +1,3 @@
+-- Events and refusals.
+pub mod Event
+pub mod Refusal

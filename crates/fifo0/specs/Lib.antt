@@ -1,0 +1,2 @@
+-- The definitions that the contracts of FIFO0 cite.
+pub mod Control

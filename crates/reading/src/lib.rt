@@ -1,0 +1,1 @@
+// The theorems of the reader of traces: no code.

@@ -1,0 +1,2 @@
+-- Counters and bytes.
+pub mod Ring

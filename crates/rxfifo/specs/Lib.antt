@@ -1,0 +1,2 @@
+-- The definitions that the contracts of RXFIFO1 to 3 cite.
+pub mod Receive

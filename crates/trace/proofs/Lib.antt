@@ -1,0 +1,4 @@
+-- Laws of the reader's definitions that its own proofs use.
+pub mod Within
+pub mod Join
+pub mod Bare

@@ -1,0 +1,5 @@
+-- The definitions that the contracts of the reader cite.
+pub mod Number
+pub mod Record
+pub mod Meaning
+pub mod Encode

@@ -1,0 +1,2 @@
+-- Which bytes are whose.
+pub mod Window
