@@ -119,9 +119,13 @@ impl Fifo0 {
     }
 
     // Zeroes the counters and the last byte read; the bytes in memory stay.
-    pub fn flush(self) -> Fifo0
+    pub fn flush(mut self) -> Fifo0
         ensures { λ r. ⌜ r ≡ reset0 ⌝ }
     {
-        Fifo0::reset()
+        self.read = 0;
+        self.write = 0;
+        self.last = 0;
+        self.received = false;
+        self
     }
 }

@@ -75,9 +75,13 @@ impl RxFifo {
         self
     }
 
-    pub fn flush(self) -> RxFifo
+    // Zeroes the counters and the last byte read; the bytes in memory stay.
+    pub fn flush(mut self) -> RxFifo
         ensures { λ r. ⌜ r ≡ resetRx ⌝ }
     {
-        RxFifo::reset()
+        self.read = 0;
+        self.write = 0;
+        self.last = 0;
+        self
     }
 }

@@ -72,9 +72,12 @@ impl TxFifo {
     }
 
     // Zeroes the counters; the bytes in memory stay.
-    pub fn flush(self) -> TxFifo
+    pub fn flush(mut self) -> TxFifo
         ensures { λ r. ⌜ r ≡ resetTx ⌝ }
     {
-        TxFifo::reset()
+        self.read = 0;
+        self.write = 0;
+        self.saved = 0;
+        self
     }
 }
