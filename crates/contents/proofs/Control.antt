@@ -5,7 +5,7 @@ use Prim.Native.Nat.{ℕ, _≤_, _<_}
 use native.Mathlib.Omega.{arith}
 use mathlib.Core.Path.{_≡_, refl, sym, _∙_}
 use mathlib.Core.Logic.{_≢_}
-use mathlib.Core.Bool.{Bool, true, false, _||_, _&&_, not, false≢true}
+use mathlib.Core.Bool.{Bool, true, false, _||_, not, false≢true, and-eq-true-iff}
 use mathlib.Core.List.{List, [], _∷_, _++_}
 use lib.ListN.{length}
 use lib.Dec.{leb, eqb}
@@ -36,18 +36,14 @@ second-false : (a b : Bool) → (a || b) ≡ false → b ≡ false
 second-false true b e = cc
 second-false false b e = e
 
-both-true : (a b : Bool) → (a && b) ≡ true → (a ≡ true) × (b ≡ true)
-both-true true b e = (refl, e)
-both-true false b e = (e, cc)
-
 module _ (f : Fifo0) where
   rcount-level : rcount f ≤ level (f .read) (f .write)
   unfolding rcount
   rcount-level = by-test (λ (k : ℕ). k ≤ level (f .read) (f .write)) _ (λ _. omega arith) (λ _. omega arith)
 
-  fits0-room : (s : List ℕ) → fits0 f s ≡ true → (level (f .read) (f .write) ≡ 0) × (length s ≤ 8)
+  fits0-room : (s : List ℕ) → fits0 f (length s) ≡ true → (level (f .read) (f .write) ≡ 0) × (length s ≤ 8)
   fits0-room s room =
-      let e : _ = both-true (eqb (level (f .read) (f .write)) 0) (leb (length s) 8) room in
+      let e : _ = and-eq-true-iff (eqb (level (f .read) (f .write)) 0) (leb (length s) 8) .0 room in
       (eqb-true _ 0 (e .0), leb-true _ 8 (e .1))
 
 module _ (f : Fifo0) (m : List ℕ) where
@@ -81,7 +77,7 @@ module _ (f : Fifo0) (m : List ℕ) where
       rw (ne-eqb _ 0 some) (record { list = head-tail 0 size0 m (f .read) (f .write) c held; taken = refl; last = refl })
 
   -- A packet that fits is all that is held then.
-  pub fill0-holds : (s : List ℕ) → Counters (f .read) (f .write) → length m ≡ 392 → fits0 f s ≡ true
+  pub fill0-holds : (s : List ℕ) → Counters (f .read) (f .write) → length m ≡ 392 → fits0 f (length s) ≡ true
       → contents0 (fill0 f s) (fill0Bytes f s m) ≡ s
   unfolding fill0 pick
   fill0-holds s c l room =
@@ -93,7 +89,7 @@ module _ (f : Fifo0) (m : List ℕ) where
       )
 
   -- A packet that does not fit changes nothing.
-  pub fill0-ignored : (s : List ℕ) → fits0 f s ≡ false → (fill0 f s ≡ f) × (fill0Bytes f s m ≡ m)
+  pub fill0-ignored : (s : List ℕ) → fits0 f (length s) ≡ false → (fill0 f s ≡ f) × (fill0Bytes f s m ≡ m)
   unfolding fill0 pick
   fill0-ignored s over = rw over (refl, refl)
 

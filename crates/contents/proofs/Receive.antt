@@ -44,14 +44,14 @@ module _ (n : FifoNumber) (f : RxFifo) (m : List ℕ) where
       rw (ne-eqb _ 0 some) (record { list = head-tail (startOf Receive n) rxSize m (f .read) (f .write) c some; taken = refl; last = refl })
 
   -- A packet that fits stands whole behind what was held.
-  pub fillRx-appends : (s : List ℕ) → Counters (f .read) (f .write) → length m ≡ 392 → fitsRx f s ≡ true
+  pub fillRx-appends : (s : List ℕ) → Counters (f .read) (f .write) → length m ≡ 392 → fitsRx f (length s) ≡ true
       → rxContents n (fillRx f s) (fillRxBytes n f s m) ≡ rxContents n f m ++ s
   unfolding fillRx pick
   fillRx-appends s c l room =
       rw room (storeAll-appends sixtyFour (startOf Receive n) s m (f .read) (f .write) (window-fits Receive n m l) c (leb-true _ _ room))
 
   -- A packet that does not fit changes nothing.
-  pub fillRx-ignored : (s : List ℕ) → fitsRx f s ≡ false → (fillRx f s ≡ f) × (fillRxBytes n f s m ≡ m)
+  pub fillRx-ignored : (s : List ℕ) → fitsRx f (length s) ≡ false → (fillRx f s ≡ f) × (fillRxBytes n f s m ≡ m)
   unfolding fillRx pick
   fillRx-ignored s over = rw over (refl, refl)
 

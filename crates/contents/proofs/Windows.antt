@@ -30,8 +30,8 @@ index-small n =
     by-test (λ (i : ℕ). i ≤ 2) _ (λ _. omega arith) (λ _.
     by-test (λ (i : ℕ). i ≤ 2) _ (λ _. omega arith) (λ _. omega arith))
 
--- the numbers 1 to 3 stand in their order, so different ones have different windows
-pub index-of : (n : FifoNumber) → 1 ≤ n .0 → n .0 ≤ 3 → indexOf n + 1 ≡ n .0
+-- the numbers 1 to 3 stand in their order
+index-of : (n : FifoNumber) → 1 ≤ n .0 → n .0 ≤ 3 → indexOf n + 1 ≡ n .0
 unfolding indexOf
 index-of n low high =
     by-test (λ (i : ℕ). i + 1 ≡ n .0) _ (λ e. omega (arith, eqb-true (n .0) 1 e)) (λ no1.
@@ -76,6 +76,24 @@ windows-apart Transmit Receive n n′ = inr (inl (omega (arith, index-small n)))
 windows-apart Receive Control n n′ = inr (inr (omega arith))
 windows-apart Receive Transmit n n′ = inr (inr (omega (arith, index-small n′)))
 windows-apart Receive Receive n n′ = slots-apart 200 (indexOf n) (indexOf n′)
+
+-- the numbers that the sheet gives: FIFO0, TXFIFO1 to 3, RXFIFO1 to 3
+abbrev pub Named : Kind → FifoNumber → Type 0
+Named Control n = n .0 ≡ 0
+Named Transmit n = (1 ≤ n .0) × (n .0 ≤ 3)
+Named Receive n = (1 ≤ n .0) × (n .0 ≤ 3)
+
+-- each of the seven has a window of its own: where two start at the same place, they are one
+pub own-window : (k k′ : Kind) (n n′ : FifoNumber) → Named k n → Named k′ n′ → startOf k n ≡ startOf k′ n′ → (k ≡ k′) × (n .0 ≡ n′ .0)
+own-window Control Control n n′ a b e = (refl, omega arith)
+own-window Control Transmit n n′ a b e = absurd {0} (omega arith)
+own-window Control Receive n n′ a b e = absurd {0} (omega arith)
+own-window Transmit Control n n′ a b e = absurd {0} (omega arith)
+own-window Transmit Transmit n n′ a b e = (refl, omega (arith, index-of n (a .0) (a .1), index-of n′ (b .0) (b .1)))
+own-window Transmit Receive n n′ a b e = absurd {0} (omega (arith, index-small n))
+own-window Receive Control n n′ a b e = absurd {0} (omega arith)
+own-window Receive Transmit n n′ a b e = absurd {0} (omega (arith, index-small n′))
+own-window Receive Receive n n′ a b e = (refl, omega (arith, index-of n (a .0) (a .1), index-of n′ (b .0) (b .1)))
 
 -- a byte changed outside a window leaves the window as it was
 set-outside : (start size : ℕ) (m : List ℕ) (p b : ℕ) → (p < start) ⊎ (start + size ≤ p)

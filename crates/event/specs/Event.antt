@@ -39,7 +39,7 @@ ranges kind =
 abbrev pub busEndpoint : ℕ → BusEndpoint
 busEndpoint n = record { 0 = n }
 
--- the event of a kind and its fields
+-- the event of a kind and its fields; asked only for kinds 1 to 8 with all their fields
 unfoldable pub eventOf : ℕ → List ℕ → Event
 eventOf kind fields =
     let a : ℕ = getD fields 0 0 in
@@ -85,6 +85,7 @@ within [] (m ∷ ms) = false
 within (v ∷ vs) [] = false
 within (v ∷ vs) (m ∷ ms) = leb v m && within vs ms
 
--- "An event given without a trace meets 4 too": its fields are in range, and the bytes beside it are as many as it says
+-- whether an event meets no refusal 4 ("An event given without a trace meets 4 too"): its fields are in range and, as we read 01, the bytes
+-- beside it are as many as it says, 0 to 64 for data and none for the others
 unfoldable pub inRange : Event → ℕ → Bool
 inRange e n = within (valuesOf e n) (ranges (kindOf e)) && eqb n (countOf (kindOf e) (valuesOf e n))

@@ -13,7 +13,7 @@ use Rattle.window.specs.declared.Kind.the-variants.{Control}
 use Rattle.window.specs.Window.{size0, fifo0, startOf}
 use Rattle.ring.specs.Ring.{next, level, full, byteAt, store, storeAll, contents}
 
--- "Reset: all zero"; "A flush zeroes all of them", and the last byte read
+-- "Reset: all zero"; "A flush zeroes all of them"; RXD0 repeats "0 after reset or flush". The bytes in memory stay, unseen
 abbrev pub reset0 : Fifo0
 reset0 = record { read = 0; write = 0; last = 0; received = false }
 
@@ -21,7 +21,7 @@ reset0 = record { read = 0; write = 0; last = 0; received = false }
 abbrev pub contents0 : Fifo0 → List ℕ → List ℕ
 contents0 f m = contents (startOf Control fifo0) size0 m (f .read) (f .write)
 
--- how many of them were received: "While FIFO0 has bytes to send, RCOUNT is 0"
+-- how many of them were received: "While FIFO0 has bytes to send, RCOUNT is 0", else it is their number
 unfoldable pub rcount : Fifo0 → ℕ
 rcount f = pick (f .received) (level (f .read) (f .write)) 0
 
@@ -50,20 +50,22 @@ take0 f m =
     (record { fifo = f; value = f .last; taken = false })
     (record { fifo = record { read = next (f .read); write = f .write; last = head0 f m; received = ltb 1 (rcount f) }; value = head0 f m; taken = true })
 
--- a packet is stored whole where there is room ("no room .. on 0 any byte held, or over 8"), else not at all
-abbrev pub fits0 : Fifo0 → List ℕ → Bool
-fits0 f s = eqb (level (f .read) (f .write)) 0 && leb (length s) size0
+-- room for so many bytes: "no room (.. on 0 any byte held, or over 8)"
+abbrev pub fits0 : Fifo0 → ℕ → Bool
+fits0 f count = eqb (level (f .read) (f .write)) 0 && leb count size0
 
+-- a packet is stored whole, or where it does not fit not at all
 unfoldable pub fill0 : Fifo0 → List ℕ → Fifo0
-fill0 f s = pick (fits0 f s) (record { read = f .read; write = (f .write + length s) % 256; last = f .last; received = ltb 0 (length s) }) f
+fill0 f s = pick (fits0 f (length s)) (record { read = f .read; write = (f .write + length s) % 256; last = f .last; received = ltb 0 (length s) }) f
 
 abbrev pub fill0Bytes : Fifo0 → List ℕ → List ℕ → List ℕ
-fill0Bytes f s m = pick (fits0 f s) (storeAll (startOf Control fifo0) size0 (f .write) s m) m
+fill0Bytes f s m = pick (fits0 f (length s)) (storeAll (startOf Control fifo0) size0 (f .write) s m) m
 
 pub record Fill0 (f : Fifo0) (s : List ℕ) (m : List ℕ) (r : Fifo0) (m′ : List ℕ) : Type 0 where
   pub counters : r ≡ fill0 f s
   pub bytes : m′ ≡ fill0Bytes f s m
 
--- "ACK empties FIFO0": by read moving to write, so RXD0 still repeats its byte
+-- "ACK empties FIFO0", and at a SETUP "bytes to send go": "bytes that go without a flush go by read moving to write", so RXD0 still repeats
+-- its byte
 abbrev pub spend0 : Fifo0 → Fifo0
 spend0 f = record { read = f .write; write = f .write; last = f .last; received = false }

@@ -1,8 +1,7 @@
-// FIFO0, which endpoint 0 both sends from and receives into: 8 bytes.
+// FIFO0, which endpoint 0 both sends from and receives into: 8 bytes. They stand in the lent memory.
+// Every function takes any value and asks nothing of its caller. The definitions that the contracts cite are in specs/.
 ghost use mathlib.Core.Path.{_≡_};
-ghost use Rattle.window.specs.Window.{size0};
-ghost use Rattle.ring.specs.Ring.{level, free};
-ghost use Rattle.fifo0.specs.Control.{reset0, rcount, Put0, take0, Fill0, spend0};
+ghost use Rattle.fifo0.specs.Control.{reset0, rcount, Put0, take0, fits0, Fill0, spend0};
 use window::FifoNumber;
 use window::Kind;
 use window::Window;
@@ -81,8 +80,7 @@ impl Fifo0 {
                 taken: false,
             };
         }
-        let at = ring::place(WINDOW, self.read);
-        let b = memory[at];
+        let b = ring::load(memory, WINDOW, self.read);
         self.read = ring::next(self.read);
         self.last = b;
         self.received = 1 < n;
@@ -93,19 +91,25 @@ impl Fifo0 {
         }
     }
 
-    // Stores a whole received packet; where a byte is held already or there are over 8, nothing.
+    // Whether there is room for so many bytes: only where none is held, and for at most 8.
+    pub fn fits(self, count: usize) -> bool
+        ensures { λ r. ⌜ r ≡ fits0 self count ⌝ }
+    {
+        let n = ring::level(self.read, self.write);
+        if n == 0 {
+            return count <= Fifo0::SIZE as usize;
+        }
+        false
+    }
+
+    // Stores a whole received packet; where it does not fit, nothing.
     pub fn fill(mut self, memory: &mut [u8; 392], s: &[u8]) -> Fifo0
         ensures { λ r. ⌜ Fill0 self (now (s .entry)) (now (memory .entry)) r (now (memory .exit)) ⌝ }
     {
-        let n = ring::level(self.read, self.write);
-        if n != 0 {
-            return self;
+        if self.fits(s.len()) {
+            self.write = ring::store_all(memory, WINDOW, self.write, s);
+            self.received = 0 < s.len();
         }
-        if 8 < s.len() {
-            return self;
-        }
-        self.write = ring::store_all(memory, WINDOW, self.write, s);
-        self.received = 0 < s.len();
         self
     }
 

@@ -14,7 +14,7 @@ use Rattle.choice.proofs.ByTest.{by-test}
 use Rattle.event.specs.declared.Event.{Event}
 use Rattle.trace.specs.Number.{Taken, value, refused, numberAt}
 use Rattle.event.specs.Event.{isKind, ranges, eventOf, countOf, kindOf, valuesOf, inRange}
-use Rattle.trace.specs.Record.{Fields, fields, unread, fieldsAt, Reading, event, end, refuse, bodyAt, recordAt, readAt}
+use Rattle.trace.specs.Record.{Fields, fields, rejected, fieldsAt, Reading, event, end, refuse, bodyAt, recordAt, readAt}
 use Rattle.trace.proofs.Within.{number-within, field-read, fields-within}
 use Rattle.reading.proofs.Past.{NumberPast, FieldsPast, number-past, fields-past}
 use Rattle.reading.proofs.Table.{Fits, none, more, event-of, kind-of, range-fits, fits-range}
@@ -64,7 +64,7 @@ module _ (trace : List ℕ) (at : ℕ) where
             payload = omega arith;
             inside = omega (arith, leb-true (countOf k vs) (length trace - p) t);
           }
-  body-answers k first e h (unread j) q g = (refl, g .0, g .1)
+  body-answers k first e h (rejected j) q g = (refl, g .0, g .1)
 
   record-answers : (t : Taken) → numberAt trace at ≡ t → NumberPast at t → Answered trace at (recordAt trace at t)
   unfolding recordAt Answered NumberPast

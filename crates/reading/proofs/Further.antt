@@ -14,7 +14,7 @@ use Rattle.choice.proofs.ByTest.{by-test}
 use Rattle.event.specs.declared.Event.{Event}
 use Rattle.trace.specs.Number.{Taken, value, refused, numberFrom, numberAt}
 use Rattle.event.specs.Event.{ranges, countOf}
-use Rattle.trace.specs.Record.{Fields, fields, unread, before, field, fieldsAt, Reading, event, end, refuse, bodyAt, recordAt, readAt}
+use Rattle.trace.specs.Record.{Fields, fields, rejected, before, field, fieldsAt, Reading, event, end, refuse, bodyAt, recordAt, readAt}
 use Rattle.reading.proofs.Past.{NumberPast, FieldsPast, second-past, number-past, before-past, field-past, fields-past}
 
 -- a record that ends past a place
@@ -32,7 +32,7 @@ abbrev NumberGrown : ℕ → Taken → Taken → Type 0
 NumberGrown size = Grown (refused 1) (NumberPast size)
 
 abbrev FieldsGrown : ℕ → Fields → Fields → Type 0
-FieldsGrown size = Grown (unread 1) (FieldsPast size)
+FieldsGrown size = Grown (rejected 1) (FieldsPast size)
 
 abbrev RecordGrown : ℕ → ℕ → Reading → Reading → Type 0
 RecordGrown size at = Grown (refuse 1 at) (RecordPast size)
@@ -95,7 +95,7 @@ module _ (s u : List ℕ) where
   body-past : (trace : List ℕ) (at k : ℕ) (f : Fields) → FieldsPast (length s) f → RecordPast (length s) (bodyAt trace at k f)
   unfolding bodyAt FieldsPast RecordPast
   body-past trace at k (fields vs p) h = payload-past trace at k vs p (omega arith)
-  body-past trace at k (unread j) h = tt
+  body-past trace at k (rejected j) h = tt
 
   body-grown : {f f′ : Fields} (at k : ℕ) → FieldsGrown (length s) f f′
       → RecordGrown (length s) at (bodyAt s at k f) (bodyAt (s ++ u) at k f′)
@@ -106,7 +106,7 @@ module _ (s u : List ℕ) where
       let l = leb-true (countOf k vs) (length s - p) h in
       rw (le-leb (countOf k vs) (length (s ++ u) - p) (rw length-append (omega arith))) same)
       (λ h. past (payload-past (s ++ u) at k vs p (omega (arith, leb-false (countOf k vs) (length s - p) h))))
-  body-grown at k (same {a = unread j}) = same
+  body-grown at k (same {a = rejected j}) = same
   body-grown at k (past {b = f} h) = past (body-past (s ++ u) at k f h)
 
   record-past : (trace : List ℕ) (at : ℕ) (t : Taken) → NumberPast (length s) t → RecordPast (length s) (recordAt trace at t)

@@ -7,7 +7,7 @@ use lib.Dec.{leb, eqb}
 use Rattle.choice.specs.Choice.{pick}
 use Rattle.choice.proofs.ByTest.{by-test}
 use Rattle.trace.specs.Number.{Taken, value, refused, numberFrom, numberAt}
-use Rattle.trace.specs.Record.{Fields, fields, unread, before, field, fieldsAt}
+use Rattle.trace.specs.Record.{Fields, fields, rejected, before, field, fieldsAt}
 
 abbrev pub Numbered : ℕ → Type 0
 Numbered k = (1 ≤ k) × (k ≤ 4)
@@ -18,7 +18,7 @@ NumberPast place (refused k) = Numbered k
 
 unfoldable pub FieldsPast : ℕ → Fields → Type 0
 FieldsPast place (fields vs next) = place < next
-FieldsPast place (unread k) = Numbered k
+FieldsPast place (rejected k) = Numbered k
 
 module _ (place : ℕ) where
   -- a number whose first byte says that a second comes
@@ -35,7 +35,7 @@ module _ (place : ℕ) where
   pub before-past : (v : ℕ) (f : Fields) → FieldsPast place f → FieldsPast place (before v f)
   unfolding before FieldsPast
   before-past v (fields vs n) h = h
-  before-past v (unread k) h = h
+  before-past v (rejected k) h = h
 
   pub field-past : (m : ℕ) (t : Taken) (others : ℕ → Fields) → NumberPast place t → ((n : ℕ) → place < n → FieldsPast place (others n))
       → FieldsPast place (field m t others)

@@ -3,7 +3,7 @@
 use Prim.Native.Nat.{ℕ, _+_, _-_, _*_, _/_, _%_, _<_}
 use mathlib.Core.Path.{_≡_}
 use mathlib.Core.Bool.{true}
-use mathlib.Core.List.{List, [], _∷_, _++_, append-assoc}
+use mathlib.Core.List.{List, _∷_, _++_, append-assoc}
 use native.Mathlib.Nat.{add-zero, add-assoc}
 use native.Mathlib.Omega.{arith}
 use lib.ListN.{length, drop, length-append}
@@ -17,14 +17,9 @@ use Rattle.trace.specs.Number.{value, numberFrom, numberAt, bytesOf}
 use Rattle.event.specs.Event.{ranges, kindOf, valuesOf, inRange}
 use Rattle.trace.specs.Encode.{numbers, header, encode}
 use Rattle.trace.specs.Record.{fields, before, field, fieldsAt}
-use Rattle.trace.proofs.Within.{field-read, some-fields-within}
+use Rattle.trace.proofs.Within.{one-byte, field-read, some-fields-within}
 use Rattle.reading.proofs.Table.{Fits, none, more, Small, is-kind, kind-of, range-fits}
 use Rattle.reading.proofs.Answers.{Stands}
-
-one-byte : (at v : ℕ) (rest : List ℕ) → ltb v 128 ≡ true → numberFrom at (v ∷ rest) ≡ value v (at + 1)
-unfolding numberFrom pick
-one-byte at v [] h = rw h
-one-byte at v (c ∷ rest) h = rw h
 
 -- a number below 16384 is read back from its bytes, whatever follows them
 pub number-back : (at v : ℕ) (rest : List ℕ) → v < 16384 → numberFrom at (bytesOf v ++ rest) ≡ value v (at + length (bytesOf v))

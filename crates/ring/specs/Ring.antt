@@ -29,7 +29,7 @@ byteAt start size memory counter = getD memory (place start size counter) 0
 abbrev pub free : ℕ → ℕ → ℕ → ℕ
 free size read write = size - level read write
 
--- as many bytes as there are free are there
+-- as many bytes as the size are there: none is free
 abbrev pub full : ℕ → ℕ → ℕ → Bool
 full size read write = leb size (level read write)
 

@@ -3,7 +3,7 @@
 ghost use mathlib.Core.Path.{_≡_};
 ghost use Prim.Native.Nat.{_≤_};
 ghost use Rattle.window.specs.Window.{sizeOf, startOf};
-ghost use Rattle.ring.specs.Ring.{level, free, next, place, store, StoreAll};
+ghost use Rattle.ring.specs.Ring.{level, free, next, place, byteAt, store, StoreAll};
 use window::Kind;
 use window::Window;
 
@@ -30,7 +30,7 @@ pub fn next(counter: u8) -> u8
 }
 
 // The place of a counter's byte.
-pub fn place(window: Window, counter: u8) -> usize
+fn place(window: Window, counter: u8) -> usize
     ensures { λ r. ⌜ (r ≡ place (startOf (window .kind) (window .number)) (sizeOf (window .kind)) counter) × (r ≤ 391) ⌝ }
 {
     let kind = window.kind;
@@ -40,6 +40,14 @@ pub fn place(window: Window, counter: u8) -> usize
         Kind::Transmit => start + (counter % Window::TXFIFO_SIZE) as usize,
         Kind::Receive => start + (counter % Window::RXFIFO_SIZE) as usize,
     }
+}
+
+// The byte at a counter's place.
+pub fn load(memory: &[u8; 392], window: Window, counter: u8) -> u8
+    ensures { λ r. ⌜ r ≡ byteAt (startOf (window .kind) (window .number)) (sizeOf (window .kind)) (now (memory .entry)) counter ⌝ }
+{
+    let at = place(window, counter);
+    memory[at]
 }
 
 // Stores one byte at a counter's place.

@@ -14,7 +14,7 @@ use Rattle.window.specs.declared.Kind.the-variants.{Receive}
 use Rattle.window.specs.Window.{rxSize, startOf}
 use Rattle.ring.specs.Ring.{next, level, byteAt, storeAll, contents}
 
--- "Reset: all zero"; "A flush zeroes all of them", and the last byte read
+-- "Reset: all zero"; "A flush zeroes all of them"; RXD repeats "0 after reset or flush". The bytes in memory stay, unseen
 abbrev pub resetRx : RxFifo
 resetRx = record { read = 0; write = 0; last = 0 }
 
@@ -32,15 +32,16 @@ takeRx n f m =
     (record { fifo = f; value = f .last; taken = false })
     (record { fifo = record { read = next (f .read); write = f .write; last = headRx n f m }; value = headRx n f m; taken = true })
 
--- a packet is stored whole, or where it does not fit ("level plus count over 64") not at all
-abbrev pub fitsRx : RxFifo → List ℕ → Bool
-fitsRx f s = leb (level (f .read) (f .write) + length s) rxSize
+-- room for so many bytes: "no room (on 2, 4, 6 level plus count over 64 ..)"
+abbrev pub fitsRx : RxFifo → ℕ → Bool
+fitsRx f count = leb (level (f .read) (f .write) + count) rxSize
 
+-- a packet is stored whole, or where it does not fit not at all
 unfoldable pub fillRx : RxFifo → List ℕ → RxFifo
-fillRx f s = pick (fitsRx f s) (record { read = f .read; write = (f .write + length s) % 256; last = f .last }) f
+fillRx f s = pick (fitsRx f (length s)) (record { read = f .read; write = (f .write + length s) % 256; last = f .last }) f
 
 abbrev pub fillRxBytes : FifoNumber → RxFifo → List ℕ → List ℕ → List ℕ
-fillRxBytes n f s m = pick (fitsRx f s) (storeAll (startOf Receive n) rxSize (f .write) s m) m
+fillRxBytes n f s m = pick (fitsRx f (length s)) (storeAll (startOf Receive n) rxSize (f .write) s m) m
 
 pub record FillRx (n : FifoNumber) (f : RxFifo) (s : List ℕ) (m : List ℕ) (r : RxFifo) (m′ : List ℕ) : Type 0 where
   pub counters : r ≡ fillRx f s

@@ -1,7 +1,7 @@
-// RXFIFO1 to 3, which endpoints 2, 4 and 6 receive into: 64 bytes each.
+// RXFIFO1 to 3, which endpoints 2, 4 and 6 receive into: 64 bytes each. The bytes stand in the lent memory.
+// Every function takes any value and asks nothing of its caller. The definitions that the contracts cite are in specs/.
 ghost use mathlib.Core.Path.{_≡_};
-ghost use Rattle.ring.specs.Ring.{level};
-ghost use Rattle.rxfifo.specs.Receive.{resetRx, takeRx, FillRx};
+ghost use Rattle.rxfifo.specs.Receive.{resetRx, takeRx, fitsRx, FillRx};
 use window::FifoNumber;
 use window::Kind;
 use window::Window;
@@ -49,8 +49,7 @@ impl RxFifo {
             kind: Kind::Receive,
             number,
         };
-        let at = ring::place(window, self.read);
-        let b = memory[at];
+        let b = ring::load(memory, window, self.read);
         self.read = ring::next(self.read);
         self.last = b;
         TakenRx {
@@ -60,12 +59,22 @@ impl RxFifo {
         }
     }
 
+    // Whether there is room for so many bytes.
+    pub fn fits(self, count: usize) -> bool
+        ensures { λ r. ⌜ r ≡ fitsRx self count ⌝ }
+    {
+        if (RxFifo::SIZE as usize) < count {
+            return false;
+        }
+        let n = ring::level(self.read, self.write);
+        n as usize + count <= RxFifo::SIZE as usize
+    }
+
     // Appends a whole packet; where it does not fit, nothing.
     pub fn fill(mut self, memory: &mut [u8; 392], number: FifoNumber, s: &[u8]) -> RxFifo
         ensures { λ r. ⌜ FillRx number self (now (s .entry)) (now (memory .entry)) r (now (memory .exit)) ⌝ }
     {
-        let n = ring::level(self.read, self.write);
-        if n as usize + s.len() <= RxFifo::SIZE as usize {
+        if self.fits(s.len()) {
             let window = Window {
                 kind: Kind::Receive,
                 number,

@@ -7,7 +7,7 @@ use mathlib.Core.List.{List, [], _∷_, _++_}
 use lib.Dec.{leb}
 use Rattle.choice.specs.Choice.{pick}
 use Rattle.trace.specs.Number.{Taken, value, refused, numberAt}
-use Rattle.trace.specs.Record.{Fields, fields, unread, before, field, fieldsAt}
+use Rattle.trace.specs.Record.{Fields, fields, rejected, before, field, fieldsAt}
 
 -- values in front of fields that were read or not
 unfoldable pub prepend : List ℕ → Fields → Fields
@@ -16,12 +16,12 @@ prepend (v ∷ vs) f = before v (prepend vs f)
 
 unfoldable pub join : Fields → (ℕ → Fields) → Fields
 join (fields vs next) others = prepend vs (others next)
-join (unread k) others = unread k
+join (rejected k) others = rejected k
 
 before-join : (v : ℕ) (f : Fields) (others : ℕ → Fields) → before v (join f others) ≡ join (before v f) others
 unfolding before join prepend
 before-join v (fields vs next) others = refl
-before-join v (unread k) others = refl
+before-join v (rejected k) others = refl
 
 field-join : (most : ℕ) (t : Taken) (one both two : ℕ → Fields) → ((n : ℕ) → both n ≡ join (one n) two)
     → field most t both ≡ join (field most t one) two
@@ -29,7 +29,7 @@ unfolding field join pick
 field-join most (refused k) one both two h = refl
 field-join most (value v n) one both two h = go (leb v most)
   where
-    go : (b : Bool) → pick b (before v (both n)) (unread 4) ≡ join (pick b (before v (one n)) (unread 4)) two
+    go : (b : Bool) → pick b (before v (both n)) (rejected 4) ≡ join (pick b (before v (one n)) (rejected 4)) two
     go true = rw h (before-join v (one n) two)
     go false = refl
 
@@ -47,6 +47,6 @@ module _ (trace : List ℕ) (at : ℕ) (ms ns : List ℕ) where
   joined p q = rw (fields-append, ← p, q)
 
   -- the first run was refused: so are both
-  pub stopped : {k : ℕ} → unread k ≡ fieldsAt trace at ms → unread k ≡ fieldsAt trace at (ms ++ ns)
+  pub stopped : {k : ℕ} → rejected k ≡ fieldsAt trace at ms → rejected k ≡ fieldsAt trace at (ms ++ ns)
   unfolding join
   stopped p = rw (fields-append, ← p)

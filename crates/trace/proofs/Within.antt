@@ -6,11 +6,17 @@ use mathlib.Core.Bool.{Bool, true, false}
 use mathlib.Core.List.{List, [], _∷_}
 use native.Mathlib.Omega.{arith}
 use lib.ListN.{length, drop, length-drop}
-use lib.Dec.{leb}
+use lib.Dec.{leb, ltb}
 use Rattle.choice.specs.Choice.{pick}
 use Rattle.choice.proofs.ByTest.{by-test}
 use Rattle.trace.specs.Number.{Taken, value, refused, numberFrom, numberAt}
-use Rattle.trace.specs.Record.{Fields, fields, unread, before, field, fieldsAt}
+use Rattle.trace.specs.Record.{Fields, fields, rejected, before, field, fieldsAt}
+
+-- a first byte below 128 is the number, whatever follows
+pub one-byte : (at v : ℕ) (rest : List ℕ) → ltb v 128 ≡ true → numberFrom at (v ∷ rest) ≡ value v (at + 1)
+unfolding numberFrom pick
+one-byte at v [] h = rw h
+one-byte at v (c ∷ rest) h = rw h
 
 -- the place after a number, where there is one
 pub record Ends (at size : ℕ) (t : Taken) : Type 0 where
@@ -51,7 +57,7 @@ pub record Read (t : Taken) (most : ℕ) (others : ℕ → Fields) (vs : List �
 before-read : (v : ℕ) (f : Fields) (vs : List ℕ) (next : ℕ) → before v f ≡ fields vs next → (rest : List ℕ) × (f ≡ fields rest next) × (vs ≡ v ∷ rest)
 unfolding before
 before-read v (fields ws n) vs next e = let p : n ≡ next = cc in (ws, rw p, cc)
-before-read v (unread k) vs next e = let z : _≡_ {A = ℕ} 0 1 = cc in absurd (omega arith)
+before-read v (rejected k) vs next e = let z : _≡_ {A = ℕ} 0 1 = cc in absurd (omega arith)
 
 pub field-read : (t : Taken) (most : ℕ) (others : ℕ → Fields) (vs : List ℕ) (next : ℕ)
     → field most t others ≡ fields vs next → Read t most others vs next
@@ -59,7 +65,7 @@ unfolding field pick
 field-read (refused k) most others vs next e = let z : _≡_ {A = ℕ} 0 1 = cc in absurd (omega arith)
 field-read (value v n) most others vs next e = go (leb v most) refl e
   where
-    go : (b : Bool) → leb v most ≡ b → pick b (before v (others n)) (unread 4) ≡ fields vs next → Read (value v n) most others vs next
+    go : (b : Bool) → leb v most ≡ b → pick b (before v (others n)) (rejected 4) ≡ fields vs next → Read (value v n) most others vs next
     go false p q = let z : _≡_ {A = ℕ} 0 1 = cc in absurd (omega arith)
     go true p q =
         let r = before-read v (others n) vs next q in

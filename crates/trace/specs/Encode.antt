@@ -1,4 +1,4 @@
--- How an event and its payload are written: the record that the reader takes for them.
+-- How an event in range and its payload are written: the record that the reader takes for them.
 use Prim.Native.Nat.{ℕ}
 use mathlib.Core.List.{List, [], _∷_, _++_}
 use lib.ListN.{length}

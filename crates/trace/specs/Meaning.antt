@@ -15,7 +15,7 @@ use Rattle.trace.specs.declared.fields.Two.the-variants as two
 use Rattle.trace.specs.declared.fields.Three.{Three}
 use Rattle.trace.specs.declared.fields.Three.the-variants as three
 use Rattle.trace.specs.Number.{Taken, value, refused}
-use Rattle.trace.specs.Record.{Fields, fields, unread, Reading, event, end, refuse}
+use Rattle.trace.specs.Record.{Fields, fields, rejected, Reading, event, end, refuse}
 
 -- "3, 4, 5 IN, OUT, SETUP token"
 abbrev pub tokenKind : Token → ℕ
@@ -34,12 +34,12 @@ takenOf (taken.Refused r) = refused (numberOf r)
 
 abbrev pub oneOf : One → Fields
 oneOf (one.Value v next) = fields (v ∷ []) next
-oneOf (one.Refused r) = unread (numberOf r)
+oneOf (one.Refused r) = rejected (numberOf r)
 
 abbrev pub twoOf : Two → Fields
 twoOf (two.Values a b next) = fields (a ∷ b ∷ []) next
-twoOf (two.Refused r) = unread (numberOf r)
+twoOf (two.Refused r) = rejected (numberOf r)
 
 abbrev pub threeOf : Three → Fields
 threeOf (three.Values a b c next) = fields (a ∷ b ∷ c ∷ []) next
-threeOf (three.Refused r) = unread (numberOf r)
+threeOf (three.Refused r) = rejected (numberOf r)

@@ -26,6 +26,6 @@ numberFrom at (b ∷ c ∷ rest) =
 abbrev pub numberAt : List ℕ → ℕ → Taken
 numberAt trace at = numberFrom at (drop at trace)
 
--- how a number is written
+-- how a number below 16384 is written
 unfoldable pub bytesOf : ℕ → List ℕ
 bytesOf v = pick (ltb v 128) (v ∷ []) ((128 + v % 128) ∷ (v / 128) ∷ [])

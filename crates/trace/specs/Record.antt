@@ -2,7 +2,7 @@
 -- 01: "A record is a kind, then its fields."; "Within a record, numbers are taken one by one: 1, 2, then that number's 3 or 4".
 use Prim.Native.Nat.{ℕ, _+_, _-_}
 use mathlib.Core.List.{List, [], _∷_}
-use lib.ListN.{length}
+use lib.ListN.{length, take, drop}
 use lib.Dec.{ltb, leb}
 use Rattle.choice.specs.Choice.{pick}
 use Rattle.event.specs.declared.Event.{Event}
@@ -12,16 +12,17 @@ use Rattle.event.specs.Event.{isKind, ranges, eventOf, countOf}
 -- the fields and the place after them, or the number of the refusal
 pub data Fields : Type 0 where
   fields : List ℕ → ℕ → Fields
-  unread : ℕ → Fields
+  rejected : ℕ → Fields
 
 unfoldable pub before : ℕ → Fields → Fields
 before v (fields vs next) = fields (v ∷ vs) next
-before v (unread k) = unread k
+before v (rejected k) = rejected k
 
--- one field at most so high, and then the others; "field out of range" is 4
+-- "numbers are taken one by one: 1, 2, then that number's 3 or 4": a field's number, at most so high ("field out of range" is 4), and only then
+-- the others; the first refusal ends it
 unfoldable pub field : ℕ → Taken → (ℕ → Fields) → Fields
-field most (value v next) others = pick (leb v most) (before v (others next)) (unread 4)
-field most (refused k) others = unread k
+field most (value v next) others = pick (leb v most) (before v (others next)) (rejected 4)
+field most (refused k) others = rejected k
 
 unfoldable pub fieldsAt : List ℕ → ℕ → List ℕ → Fields
 fieldsAt trace at [] = fields [] at
@@ -33,11 +34,15 @@ pub data Reading : Type 0 where
   end : Reading
   refuse : ℕ → ℕ → Reading
 
--- after the fields "that many raw bytes"; "trace ends inside a record" is 1
+-- the part of a trace from one place to another
+abbrev pub stretch : List ℕ → ℕ → ℕ → List ℕ
+stretch trace from to = take (to - from) (drop from trace)
+
+-- after the fields "that many raw bytes" (none but for data); "trace ends inside a record" is 1
 unfoldable pub bodyAt : List ℕ → ℕ → ℕ → Fields → Reading
 bodyAt trace at kind (fields vs next) =
     pick (leb (countOf kind vs) (length trace - next)) (event (eventOf kind vs) next (next + countOf kind vs)) (refuse 1 at)
-bodyAt trace at kind (unread k) = refuse k at
+bodyAt trace at kind (rejected k) = refuse k at
 
 -- "kind outside 1..8" is 3
 unfoldable pub recordAt : List ℕ → ℕ → Taken → Reading

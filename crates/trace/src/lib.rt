@@ -1,12 +1,10 @@
 // The reader of traces: what record stands at a place of a trace, or which refusal. It keeps nothing and takes any bytes at any place.
 // The definitions that the contracts cite are in specs/.
 ghost use mathlib.Core.Path.{_≡_};
-ghost use Prim.Native.Nat.{_-_};
 ghost use mathlib.Core.List.{[], _∷_};
-ghost use lib.ListN.{take, drop};
 ghost use Rattle.event.specs.Event.{eventOf};
 ghost use Rattle.trace.specs.Number.{value};
-ghost use Rattle.trace.specs.Record.{fieldsAt, readAt, recordAt, bodyAt};
+ghost use Rattle.trace.specs.Record.{fieldsAt, readAt, recordAt, bodyAt, stretch};
 ghost use Rattle.trace.specs.Meaning.{tokenKind, meaning};
 use event::BusEndpoint;
 use event::Event;
@@ -53,7 +51,7 @@ pub fn read(s: &[u8], at: usize) -> Found
 
 // The payload of a record: the part of the trace from past its header to the next place.
 pub fn payload(s: &[u8], span: Span) -> &[u8]
-    ensures { λ r. ⌜ now r ≡ take (span .next - span .payload) (drop (span .payload) (now (s .entry))) ⌝ }
+    ensures { λ r. ⌜ now r ≡ stretch (now (s .entry)) (span .payload) (span .next) ⌝ }
 {
     let a = span.payload;
     let e = span.next;

@@ -11,7 +11,7 @@ use Rattle.window.specs.declared.Kind.the-variants.{Transmit}
 use Rattle.window.specs.Window.{txSize, startOf}
 use Rattle.ring.specs.Ring.{next, level, full, store, contents}
 
--- "Reset: all zero"; "A flush zeroes all of them"
+-- "Reset: all zero"; "A flush zeroes all of them". The bytes in memory stay: nothing but a refill could show them, and saved is 0 too
 abbrev pub resetTx : TxFifo
 resetTx = record { read = 0; write = 0; saved = 0 }
 

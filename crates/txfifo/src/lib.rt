@@ -1,7 +1,6 @@
-// TXFIFO1 to 3, which endpoints 1, 3 and 5 send from: 64 bytes each, with a saved read pointer.
+// TXFIFO1 to 3, which endpoints 1, 3 and 5 send from: 64 bytes each, with a saved read pointer. The bytes stand in the lent memory.
+// Every function takes any value and asks nothing of its caller. The definitions that the contracts cite are in specs/.
 ghost use mathlib.Core.Path.{_≡_};
-ghost use Rattle.window.specs.Window.{txSize};
-ghost use Rattle.ring.specs.Ring.{level, free};
 ghost use Rattle.txfifo.specs.Transmit.{resetTx, PutTx, spendTx, refillTx, markTx};
 use window::FifoNumber;
 use window::Kind;
@@ -57,7 +56,7 @@ impl TxFifo {
         ensures { λ r. ⌜ r ≡ refillTx self ⌝ }
     {
         let n = ring::level(self.saved, self.write);
-        if n <= 64 {
+        if n <= TxFifo::SIZE {
             self.read = self.saved;
         }
         self

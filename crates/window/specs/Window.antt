@@ -24,7 +24,8 @@ sizeOf Control = size0
 sizeOf Transmit = txSize
 sizeOf Receive = rxSize
 
--- how many of its kind stand before it; a number that the sheet does not have is taken for the third, so that every number has a window
+-- how many of its kind stand before it: TXFIFO1 and RXFIFO1 are the first. Every number has a window: any but 1 and 2, FIFO0's 0 too, is
+-- taken for the third; only 1 to 3 are ever asked
 unfoldable pub indexOf : FifoNumber → ℕ
 indexOf n = pick (eqb (n .0) 1) 0 (pick (eqb (n .0) 2) 1 2)
 

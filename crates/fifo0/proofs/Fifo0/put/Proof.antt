@@ -3,7 +3,6 @@
 use borrow.Author.Needs.{needs}
 use Rattle.ring.specs.Ring.{next, level}
 use native.Mathlib.Omega.{arith}
-use mathlib.Core.Path.{_≡_}
 use Rattle.fifo0.specs.Control.{put0}
 use borrow.Author.Tests.{eq-eqb, ne-eqb, le-leb, lt-leb}
 use Rattle.choice.specs.Choice.{pick}
@@ -25,8 +24,9 @@ free-requires c κs = search needs
 returns-2 : tie.Need-returns-2
 unfolding put0 pick
 returns-2 c =
+    let f = c .before .before .before .before .args .self in
     let t = simp (c .before .before .before .rcount .ensures) at (eq-eqb _ _ (c .before .before .if1 .left)) in
-    let s = le-leb 8 (level (c .before .before .before .before .args .self .read) (c .before .before .before .before .args .self .write)) (omega (arith, c .before .free .ensures)) in
+    let s = le-leb 8 (level (f .read) (f .write)) (omega (arith, c .before .free .ensures)) in
     record { counters = rw (t, s); bytes = rw (t, s) }
 
 store-requires : tie.Need-store-requires
@@ -38,10 +38,10 @@ next-requires c κs = search needs
 returns-3 : tie.Need-returns-3
 unfolding put0 pick
 returns-3 c =
+    let f = c .before .before .before .before .before .before .before .args .self in
     let t = simp (c .before .before .before .before .before .before .rcount .ensures) at (eq-eqb _ _ (c .before .before .before .before .before .if1 .left)) in
-    let s = lt-leb 8 (level (c .before .before .before .before .before .before .before .args .self .read) (c .before .before .before .before .before .before .before .args .self .write)) (omega (arith, c .before .before .before .before .free .ensures)) in
-    let w : c .next .result ≡ next (c .before .before .before .before .before .before .before .args .self .write) = omega arith in
-    record { counters = rw (t, s, w); bytes = rw (t, s) (c .before .store .ensures) }
+    let s = lt-leb 8 (level (f .read) (f .write)) (omega (arith, c .before .before .before .before .free .ensures)) in
+    record { counters = rw (t, s, c .next .ensures); bytes = rw (t, s) (c .before .store .ensures) }
 
 pub put-spec : {M : Type 1} → statement M
 put-spec =

@@ -1,14 +1,12 @@
 -- `number` meets its contract: what stands from the place on is nothing, one byte, or two and more.
 -- Assumes nothing.
 use borrow.Author.Needs.{needs}
-use lib.Dec.{ltb}
-use mathlib.Core.Bool.{true}
-use Rattle.trace.specs.Number.{value}
+use Rattle.trace.proofs.Within.{one-byte}
 use lib.ListN.{length, drop, getD}
 use native.Mathlib.Numerals.{add-one}
 use Prim.Native.Nat.{ℕ, suc, _+_, _<_, _≤_}
 use mathlib.Core.List.{List, [], _∷_}
-use mathlib.Core.Path.{_≡_}
+use mathlib.Core.Path.{_≡_, sym}
 use mathlib.Core.Path.{_≡_}
 use lib.Seq.{drop-cons}
 use lib.ListN.{drop-of-length-le}
@@ -42,14 +40,8 @@ add-second c = search needs
 cast-t11 : tie.Need-cast-t11
 cast-t11 c = search needs
 
--- a first byte below 128 is the number, whatever follows
-low : (at b : ℕ) (l : List ℕ) → ltb b 128 ≡ true → value b (at + 1) ≡ numberFrom at (b ∷ l)
-unfolding numberFrom pick
-low at b [] h = rw h
-low at b (d ∷ l) h = rw h
-
 returns-2 : tie.Need-returns-2
-returns-2 c = rw (drop-cons (c .before .before .before .args .s .now) (c .before .before .before .args .at) 0 (c .before .before .if1 .left)) (low _ _ _ (lt-ltb _ _ (c .if2 .taken)))
+returns-2 c = rw (drop-cons (c .before .before .before .args .s .now) (c .before .before .before .args .at) 0 (c .before .before .if1 .left)) (sym (one-byte _ _ _ (lt-ltb _ _ (c .if2 .taken))))
 
 returns-3 : tie.Need-returns-3
 unfolding numberFrom pick

@@ -28,15 +28,23 @@ enum-known-r-2 c = search needs
 returns : tie.Need-returns
 unfolding prepend before
 returns c =
-    joined _ _ (c .before .before .before .before .before .before .before .before .before .args .first ∷ c .before .before .before .before .before .before .before .before .before .args .second ∷ []) (c .before .before .before .before .before .before .before .before .before .args .third ∷ []) (rw (c .before .before .before .before .before .a .given .1) at (c .before .before .before .before .before .before .before .pair-at .ensures)) (rw (c .before .c .given .1) at (c .before .before .before .field-at .ensures))
+    let p = c .before .before .before .before .before .before .before .before .before .args in
+    joined _ _ (p .first ∷ p .second ∷ []) (p .third ∷ [])
+    (rw (c .before .before .before .before .before .a .given .1) at (c .before .before .before .before .before .before .before .pair-at .ensures))
+    (rw (c .before .c .given .1) at (c .before .before .before .field-at .ensures))
 
 returns-2 : tie.Need-returns-2
 unfolding prepend before
 returns-2 c =
-    joined _ _ (c .before .before .before .before .before .before .before .before .before .args .first ∷ c .before .before .before .before .before .before .before .before .before .args .second ∷ []) (c .before .before .before .before .before .before .before .before .before .args .third ∷ []) (rw (c .before .before .before .before .before .a .given .1) at (c .before .before .before .before .before .before .before .pair-at .ensures)) (rw (c .before .r .given .1) at (c .before .before .before .field-at .ensures))
+    let p = c .before .before .before .before .before .before .before .before .before .args in
+    joined _ _ (p .first ∷ p .second ∷ []) (p .third ∷ [])
+    (rw (c .before .before .before .before .before .a .given .1) at (c .before .before .before .before .before .before .before .pair-at .ensures))
+    (rw (c .before .r .given .1) at (c .before .before .before .field-at .ensures))
 
 returns-3 : tie.Need-returns-3
-returns-3 c = stopped _ _ (c .before .before .before .before .before .args .first ∷ c .before .before .before .before .before .args .second ∷ []) (c .before .before .before .before .before .args .third ∷ []) (rw (c .before .r2 .given .1) at (c .before .before .before .pair-at .ensures))
+returns-3 c =
+    let p = c .before .before .before .before .before .args in
+    stopped _ _ (p .first ∷ p .second ∷ []) (p .third ∷ []) (rw (c .before .r2 .given .1) at (c .before .before .before .pair-at .ensures))
 
 pub triple-at-spec : {M : Type 1} → statement M
 triple-at-spec =

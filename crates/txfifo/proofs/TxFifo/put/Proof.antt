@@ -1,9 +1,8 @@
 -- `TxFifo::put` meets its contract: the test is the definition's own, and `store` writes the byte.
 -- Assumes nothing.
 use borrow.Author.Needs.{needs}
-use Rattle.ring.specs.Ring.{next}
+use Rattle.ring.specs.Ring.{level}
 use native.Mathlib.Omega.{arith}
-use mathlib.Core.Path.{_≡_}
 use Rattle.txfifo.specs.Transmit.{putTx}
 use borrow.Author.Tests.{le-leb, lt-leb}
 use Rattle.choice.specs.Choice.{pick}
@@ -16,7 +15,8 @@ level-requires c κs = search needs
 returns : tie.Need-returns
 unfolding putTx pick
 returns c =
-    let t = simp (c .before .level .ensures) at (le-leb _ _ (c .if1 .taken)) in
+    let f = c .before .before .args .self in
+    let t = le-leb 64 (level (f .read) (f .write)) (omega arith) in
     record { counters = rw t; bytes = rw t }
 
 store-requires : tie.Need-store-requires
@@ -28,9 +28,9 @@ next-requires c κs = search needs
 returns-2 : tie.Need-returns-2
 unfolding putTx pick
 returns-2 c =
-    let t = simp (c .before .before .before .before .level .ensures) at (lt-leb _ _ (c .before .before .before .if1 .left)) in
-    let w : c .next .result ≡ next (c .before .before .before .before .before .args .self .write) = omega arith in
-    record { counters = rw (t, w); bytes = rw t (c .before .store .ensures) }
+    let f = c .before .before .before .before .before .args .self in
+    let t = lt-leb 64 (level (f .read) (f .write)) (omega arith) in
+    record { counters = rw (t, c .next .ensures); bytes = rw t (c .before .store .ensures) }
 
 pub put-spec : {M : Type 1} → statement M
 put-spec =
