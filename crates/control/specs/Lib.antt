@@ -1,0 +1,3 @@
+-- The definitions that the contracts of endpoint 0 cite.
+pub mod State
+pub mod Registers

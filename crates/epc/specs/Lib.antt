@@ -1,0 +1,3 @@
+-- The definitions that the contracts of EPC1 to EPC6 cite.
+pub mod Bits
+pub mod Epc

@@ -1,0 +1,2 @@
+-- The definitions that the contracts of the event registers cite.
+pub mod Interrupt

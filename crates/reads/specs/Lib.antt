@@ -1,0 +1,2 @@
+-- The definitions that the contracts of register reads cite.
+pub mod Read

@@ -1,0 +1,2 @@
+-- The definitions that the contracts of endpoints 1, 3 and 5 cite.
+pub mod Sender

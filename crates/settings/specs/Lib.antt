@@ -1,0 +1,2 @@
+-- The definitions that the contracts of these writes cite.
+pub mod Settings

@@ -1,0 +1,2 @@
+-- The definitions that the contracts of the register map cite.
+pub mod Slot

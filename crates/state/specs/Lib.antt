@@ -1,0 +1,3 @@
+-- The definitions that the contracts of the chip's state cite.
+pub mod State
+pub mod Set

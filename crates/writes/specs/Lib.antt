@@ -1,0 +1,2 @@
+-- The definitions that the contracts of register writes cite.
+pub mod Write
