@@ -1,11 +1,30 @@
--- Document 01's worked examples, computed by the checker: P10 and P11 so far.
+-- Document 01's worked examples, computed by the checker: P5, P6, P10 and P11 so far.
 -- Assumes nothing.
 use mathlib.Core.Path.{_≡_, refl}
-use mathlib.Core.List.{[], _∷_}
+use Prim.Native.Nat.{ℕ}
+use mathlib.Core.List.{List, [], _∷_}
+use borrow.Author.Tests.{le-leb}
+use native.Mathlib.Omega.{arith}
 use Rattle.choice.specs.Choice.{pick}
+use Rattle.window.specs.declared.FifoNumber.{FifoNumber}
 use Rattle.ring.specs.Ring.{level}
+use Rattle.txfifo.specs.declared.TxFifo.{TxFifo}
+use Rattle.txfifo.specs.Transmit.{putTx, putTxBytes}
+use Rattle.contents.proofs.Transmit.{putTx-ignored}
+use Rattle.sender.specs.Sender.{resetSender, withFifo, statusOf}
 use Rattle.trace.specs.Number.{value, refused, numberFrom, numberAt}
 use Rattle.trace.specs.Record.{refuse, readAt, recordAt}
+
+-- P5: levels 33, 34: TXS 1F, 1E
+pub P5-33 : statusOf (withFifo (record { read = 0; write = 33; saved = 0 }) resetSender) ≡ 0x1F
+P5-33 = refl
+
+pub P5-34 : statusOf (withFifo (record { read = 0; write = 34; saved = 0 }) resetSender) ≡ 0x1E
+P5-34 = refl
+
+-- P6: a 65th byte changes nothing, whatever FIFO, counters, byte and memory
+pub P6 : (n : FifoNumber) (f : TxFifo) (m : List ℕ) (b : ℕ) → level (f .read) (f .write) ≡ 64 → (putTx f ≡ f) × (putTxBytes n f b m ≡ m)
+P6 n f m b full = putTx-ignored n f m b (le-leb 64 (level (f .read) (f .write)) (omega arith))
 
 -- P10: read 250, write 4: ten bytes
 pub P10 : level 250 4 ≡ 10
