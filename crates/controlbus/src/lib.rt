@@ -8,7 +8,7 @@ pub use setup::judge_setup;
 pub use setup::received_setup;
 pub use setup::setup_dropped;
 
-mod setup;
+pub mod setup;
 
 // What an IN token finds: silence, NAK, STALL, or DATA0 or DATA1 by TOGGLE.
 pub enum Sent0 {
