@@ -1,0 +1,4 @@
+-- The definitions that the contracts of the bus events cite.
+pub mod Ends
+pub mod Bus
+pub mod Payload

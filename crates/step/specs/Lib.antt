@@ -1,0 +1,2 @@
+-- The definitions that the contract of one event cites.
+pub mod Step

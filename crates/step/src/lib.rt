@@ -1,0 +1,98 @@
+// One event on the whole chip: a register access, or a bus event, which in the operational state first ends what was awaited.
+// Every state and every event has its answer. The definitions that the contracts cite are in specs/.
+ghost use mathlib.Core.Path.{_≡_};
+ghost use lib.Dec.{eqb};
+ghost use Rattle.bus.specs.Payload.{Gives};
+ghost use Rattle.step.specs.Step.{quiet, readStep, writeStep, inStep, outStep, setupStep, dataStep, dataStepBytes, endStep, stepOf, stepBytes};
+ghost use Rattle.writes.specs.Write.{bytesOf};
+use bus::Answer;
+use bus::Out;
+use event::BusEndpoint;
+use event::Event;
+use state::Chip;
+
+// One event.
+pub fn step(c: Chip, memory: &mut [u8; 392], event: Event, s: &[u8]) -> Out
+    ensures { λ r. ⌜ Gives (stepOf event (now (s .entry)) c (now (memory .entry))) (stepBytes event (now (s .entry)) c (now (memory .entry))) r (now (memory .exit)) ⌝ }
+{
+    match event {
+        Event::Read(a) => read(c, memory, a),
+        Event::Write(a, v) => write(c, memory, a, v),
+        Event::In(a, e) => in_event(c, a, e),
+        Event::Out(a, e) => out_event(c, a, e),
+        Event::Setup(a, e) => setup_event(c, a, e),
+        Event::Data(pid, sound) => data_event(c, memory, pid == 1, sound == 1, s),
+        Event::Ack => end_event(c, true),
+        Event::Timeout => end_event(c, false),
+    }
+}
+
+// The wait for a handshake ends; awaited data does not come.
+fn quiet(c: Chip, acked: bool) -> Chip
+    ensures { λ r. ⌜ r ≡ quiet acked c ⌝ }
+{
+    bus::ends::dropped(bus::ends::ended(c, acked))
+}
+
+fn read(c: Chip, memory: &[u8; 392], address: u8) -> Out
+    ensures { λ r. ⌜ r ≡ readStep address c (now (memory .entry)) ⌝ }
+{
+    let r = reads::read(c, memory, address);
+    let n = r.chip;
+    Out {
+        chip: n,
+        answer: Answer::Value(r.value),
+    }
+}
+
+fn write(c: Chip, memory: &mut [u8; 392], address: u8, v: u8) -> Out
+    ensures { λ r. ⌜ Gives (writeStep address v c) (bytesOf address v c (now (memory .entry))) r (now (memory .exit)) ⌝ }
+{
+    let n = writes::write(c, memory, address, v);
+    bus::silent(n)
+}
+
+fn in_event(c: Chip, address: u8, endpoint: BusEndpoint) -> Out
+    ensures { λ r. ⌜ r ≡ inStep address endpoint c ⌝ }
+{
+    if settings::operational(c) {
+        return bus::in_token(quiet(c, false), address, endpoint);
+    }
+    bus::silent(c)
+}
+
+fn out_event(c: Chip, address: u8, endpoint: BusEndpoint) -> Out
+    ensures { λ r. ⌜ r ≡ outStep address endpoint c ⌝ }
+{
+    if settings::operational(c) {
+        return bus::out_token(quiet(c, false), address, endpoint);
+    }
+    bus::silent(c)
+}
+
+fn setup_event(c: Chip, address: u8, endpoint: BusEndpoint) -> Out
+    ensures { λ r. ⌜ r ≡ setupStep address endpoint c ⌝ }
+{
+    if settings::operational(c) {
+        return bus::setup_token(quiet(c, false), address, endpoint);
+    }
+    bus::silent(c)
+}
+
+fn data_event(c: Chip, memory: &mut [u8; 392], pid: bool, sound: bool, s: &[u8]) -> Out
+    ensures { λ r. ⌜ Gives (dataStep pid sound (now (s .entry)) c) (dataStepBytes pid sound (now (s .entry)) c (now (memory .entry))) r (now (memory .exit)) ⌝ }
+{
+    if settings::operational(c) {
+        return bus::payload::data(bus::ends::ended(c, false), memory, pid, sound, s);
+    }
+    bus::silent(c)
+}
+
+fn end_event(c: Chip, acked: bool) -> Out
+    ensures { λ r. ⌜ r ≡ endStep acked c ⌝ }
+{
+    if settings::operational(c) {
+        return bus::silent(quiet(c, acked));
+    }
+    bus::silent(c)
+}
