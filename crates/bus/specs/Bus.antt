@@ -3,10 +3,7 @@ use Prim.Native.Nat.{ℕ}
 use mathlib.Core.Bool.{Bool, true, false}
 use lib.Dec.{eqb}
 use Rattle.choice.specs.Choice.{pick}
-use Rattle.ring.specs.Ring.{level}
 use Rattle.window.specs.declared.FifoNumber.{FifoNumber}
-use Rattle.window.specs.declared.Kind.{Kind}
-use Rattle.window.specs.declared.Kind.the-variants as kind
 use Rattle.window.specs.Window.{fifo0}
 use Rattle.event.specs.declared.BusEndpoint.{BusEndpoint}
 use Rattle.sender.specs.declared.Sender.{Sender}
@@ -26,17 +23,9 @@ use Rattle.state.specs.Set.{withControl, withSender, withEvents, withPending, n
 use Rattle.tokens.specs.declared.Match.{Match}
 use Rattle.tokens.specs.declared.Match.the-variants.{Nobody, Takes}
 use Rattle.tokens.specs.Tokens.{zeroTakes, inMask, outMask, winner}
-use Rattle.bus.specs.declared.Packet.{Packet}
-use Rattle.bus.specs.declared.Answer.{Answer}
-use Rattle.bus.specs.declared.Answer.the-variants.{Silence, Data0, Data1, Broken, Nak, Stall}
-use Rattle.bus.specs.declared.Out.{Out}
-
--- a chip and an answer
-abbrev pub gives : Chip → Answer → Out
-gives c a = record { chip = c; answer = a }
-
-abbrev pub silent : Chip → Out
-silent c = gives c Silence
+use Rattle.answer.specs.declared.Answer.the-variants.{Data0, Data1, Broken, Nak, Stall}
+use Rattle.answer.specs.declared.Out.{Out}
+use Rattle.answer.specs.Answer.{gives, silent, packet0, packetAt}
 
 -- something is awaited, nothing is held
 unfoldable pub awaiting : Wait → Chip → Chip
@@ -46,18 +35,8 @@ awaiting w c = withPending (record { wait = w; holds = false; held = 0; flush = 
 unfoldable pub markedIn : FifoNumber → Chip → Chip
 markedIn n c = withEvents (nakkedIn n (c .events)) c
 
--- "with all bytes held": from the read counter on
-unfoldable pub packetOf : Kind → FifoNumber → ℕ → ℕ → Packet
-packetOf k n read write = record { window = record { kind = k; number = n }; from = read; count = level read write }
-
 abbrev pub zeroPlace : Endpoint
 zeroPlace = record { 0 = 0 }
-
-abbrev pub packet0 : Control → Packet
-packet0 z = packetOf kind.Control fifo0 (z .fifo .read) (z .fifo .write)
-
-abbrev pub packetAt : FifoNumber → Sender → Packet
-packetAt n s = packetOf kind.Transmit n (s .fifo .read) (s .fifo .write)
 
 -- ---- IN
 

@@ -1,4 +1,2 @@
--- The definitions that the contracts of the bus events cite.
-pub mod Ends
+-- The definitions that the contracts of the tokens cite.
 pub mod Bus
-pub mod Payload

@@ -1,14 +1,15 @@
-// The chip at a bus event in the operational state: the tokens here; the end of a wait is in ends.rt, data in payload.rt.
-// A packet that is sent is named by where its bytes stand in the lent memory. The definitions that the contracts cite are in specs/.
+// The chip at a token in the operational state: IN, OUT, SETUP.
+// The definitions that the contracts cite are in specs/.
 ghost use mathlib.Core.Path.{_≡_};
-ghost use Rattle.bus.specs.Bus.{silent, awaiting, markedIn, packetOf, answeredZero, inZero, answeredSender, inSender, inAt, inToken};
+ghost use Rattle.answer.specs.Answer.{packetOf};
+ghost use Rattle.bus.specs.Bus.{awaiting, markedIn, answeredZero, inZero, answeredSender, inSender, inAt, inToken};
 ghost use Rattle.bus.specs.Bus.{outAt, outToken, setupToken};
+use answer::Answer;
+use answer::Out;
+use answer::Packet;
 use control::Control;
 use controlbus::Sent0;
-pub use ends::dropped;
-pub use ends::ended;
 use event::BusEndpoint;
-pub use payload::data;
 use sender::Sender;
 use sender::Sent;
 use state::Chip;
@@ -19,42 +20,6 @@ use tokens::Match;
 use window::FifoNumber;
 use window::Kind;
 use window::Window;
-
-pub mod ends;
-pub mod payload;
-
-// The bytes of a packet: `count` of them in a window of the lent memory, from the place of the counter `from` on.
-pub struct Packet {
-    pub window: Window,
-    pub from: u8,
-    pub count: u8,
-}
-
-// What is seen of an event: a register's value, or what the chip puts on the bus.
-pub enum Answer {
-    Silence,
-    Value(u8),
-    Data0(Packet),
-    Data1(Packet),
-    Broken,
-    Ack,
-    Nak,
-    Stall,
-}
-
-pub struct Out {
-    pub chip: Chip,
-    pub answer: Answer,
-}
-
-pub fn silent(c: Chip) -> Out
-    ensures { λ r. ⌜ r ≡ silent c ⌝ }
-{
-    Out {
-        chip: c,
-        answer: Answer::Silence,
-    }
-}
 
 // Something is awaited, and nothing held.
 fn awaiting(c: Chip, w: Wait) -> Chip
@@ -100,7 +65,7 @@ pub fn in_token(c: Chip, address: u8, endpoint: BusEndpoint) -> Out
 {
     let m = tokens::winner(tokens::in_mask(c, address, endpoint));
     match m {
-        Match::Nobody => silent(c),
+        Match::Nobody => answer::silent(c),
         Match::Takes(e) => in_at(c, e),
     }
 }
@@ -132,7 +97,7 @@ fn answered_zero(a: Sent0, z: Control, n: Chip) -> Out
     let f = z.fifo;
     let p = all_held(Kind::Control, FifoNumber(0), f.read, f.write);
     match a {
-        Sent0::Silence => silent(n),
+        Sent0::Silence => answer::silent(n),
         Sent0::Nak => Out {
             chip: marked_in(n, FifoNumber(0)),
             answer: Answer::Nak,
@@ -199,8 +164,8 @@ pub fn out_token(c: Chip, address: u8, endpoint: BusEndpoint) -> Out
 {
     let m = tokens::winner(tokens::out_mask(c, address, endpoint));
     match m {
-        Match::Nobody => silent(c),
-        Match::Takes(e) => silent(out_at(c, e)),
+        Match::Nobody => answer::silent(c),
+        Match::Takes(e) => answer::silent(out_at(c, e)),
     }
 }
 
@@ -222,7 +187,7 @@ pub fn setup_token(c: Chip, address: u8, endpoint: BusEndpoint) -> Out
     ensures { λ r. ⌜ r ≡ setupToken address endpoint c ⌝ }
 {
     if tokens::zero_takes(c, address, endpoint) {
-        return silent(awaiting(c, Wait::Setup));
+        return answer::silent(awaiting(c, Wait::Setup));
     }
-    silent(c)
+    answer::silent(c)
 }

@@ -9,10 +9,11 @@ use Rattle.choice.specs.Choice.{pick}
 use Rattle.fifo0.specs.Control.{rcount, fits0, fill0, fill0Bytes, spend0}
 use Rattle.control.specs.declared.Control.{Control}
 use Rattle.control.specs.State.{withFifo, withEpc, withTxFlags, withRxFlags, withSends, withReceives, withMark}
+use Rattle.verdict.specs.declared.Judged.{Judged}
+use Rattle.verdict.specs.declared.Judged.the-variants as judged
+use Rattle.verdict.specs.Verdict.{heard, isAck}
 use Rattle.controlbus.specs.declared.Sent0.{Sent0}
 use Rattle.controlbus.specs.declared.Sent0.the-variants as answer
-use Rattle.controlbus.specs.declared.Judged0.{Judged0}
-use Rattle.controlbus.specs.declared.Judged0.the-variants as judged
 
 -- "Not enabled (TX_EN clear; on 0 also RX_EN set or, H, received bytes unread)"
 unfoldable pub disabled : Control → Bool
@@ -44,23 +45,11 @@ sent c = withMark false (afterIn (answerIn c) c)
 unfoldable pub handshake : Bool → Control → Control
 handshake acked c = pick acked (withSends false (withTxFlags true true (withFifo (spend0 (c .fifo)) c))) c
 
--- "(unsound: silence)"
-unfoldable pub heard : Bool → Judged0 → Judged0
-heard sound j = pick sound j judged.Silence
-
--- the answer is ACK
-abbrev pub isAck : Judged0 → Bool
-isAck judged.Silence = false
-isAck judged.Nak = false
-isAck judged.Stall = false
-isAck judged.Overrun = false
-isAck judged.Ack = true
-
 -- "In order: IGN_OUT, silence; RX_EN clear, NAK and its bit (unsound data: silence); STALL (unsound: silence) answers STALL, clears RX_EN,
 -- sets RX_LAST on 0; no room (on 2, 4, 6 level plus count over 64; on 0 any byte held, or over 8), overrun bit and NAK without its NAKEV bit,
 -- RX_EN kept (unsound: silence); unsound, silence, on 2, 4, 6 bytes stored, RX_ERR set, RX_EN cleared; count 0, ACK, RX_EN cleared; else
 -- stored, ACK, RX_LAST set, TOGGLE = PID, RX_EN cleared, on 0 SETUP cleared."
-unfoldable pub judgeOut : Bool → ℕ → Control → Judged0
+unfoldable pub judgeOut : Bool → ℕ → Control → Judged
 judgeOut sound count c =
     pick (c .ignout) judged.Silence
     (pick (not (c .receives)) (heard sound judged.Nak)
@@ -84,14 +73,14 @@ pub record Stored (pid : Bool) (c : Control) (s : List ℕ) (m : List ℕ) (r : 
 
 -- "STALL (..) answers STALL, clears RX_EN, sets RX_LAST on 0; no room (..), overrun bit and NAK without its NAKEV bit, RX_EN kept";
 -- "'Unsound: silence' below changes no flag and no byte."
-abbrev pub afterOut : Judged0 → Bool → Control → List ℕ → Control
+abbrev pub afterOut : Judged → Bool → Control → List ℕ → Control
 afterOut judged.Silence pid c s = c
 afterOut judged.Nak pid c s = c
 afterOut judged.Stall pid c s = withReceives false (withRxFlags (c .setup) (c .toggle) true c)
 afterOut judged.Overrun pid c s = c
 afterOut judged.Ack pid c s = stored pid c s
 
-abbrev pub afterOutBytes : Judged0 → Control → List ℕ → List ℕ → List ℕ
+abbrev pub afterOutBytes : Judged → Control → List ℕ → List ℕ → List ℕ
 afterOutBytes j c s m = pick (isAck j) (storedBytes c s m) m
 
 abbrev pub received : Bool → Bool → Control → List ℕ → Control

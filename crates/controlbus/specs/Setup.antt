@@ -9,9 +9,9 @@ use Rattle.choice.specs.Choice.{pick}
 use Rattle.fifo0.specs.Control.{rcount, fill0, fill0Bytes, spend0}
 use Rattle.control.specs.declared.Control.{Control}
 use Rattle.control.specs.State.{withFifo, withRxFlags, withSends, withReceives, withMark}
-use Rattle.controlbus.specs.declared.Judged0.{Judged0}
-use Rattle.controlbus.specs.declared.Judged0.the-variants.{Silence, Ack}
-use Rattle.controlbus.specs.Bus.{isAck}
+use Rattle.verdict.specs.declared.Judged.{Judged}
+use Rattle.verdict.specs.declared.Judged.the-variants.{Silence, Ack}
+use Rattle.verdict.specs.Verdict.{isAck}
 
 -- "Silence if IGN_SETUP, unsound, PID 1, count not 8."
 unfoldable pub refused : Bool → Bool → ℕ → Control → Bool
@@ -19,7 +19,7 @@ refused pid sound count c = c .ignsetup || not sound || pid || not (eqb count 8)
 
 -- "Silence if .. If the previous token to 0 was a SETUP that was taken (a dropped one counts, H): ACK, data dropped. Unread bytes: silence.
 -- Else bytes to send go, 8 stored, ACK"
-unfoldable pub judgeSetup : Bool → Bool → ℕ → Control → Judged0
+unfoldable pub judgeSetup : Bool → Bool → ℕ → Control → Judged
 judgeSetup pid sound count c =
     pick (refused pid sound count c) Silence
     (pick (c .mark) Ack
@@ -42,10 +42,10 @@ pub record TakenSetup (c : Control) (s : List ℕ) (m : List ℕ) (r : Control) 
   pub bytes : m′ ≡ takenBytes c s m
 
 -- "(a dropped one counts, H): ACK, data dropped": nothing changes, the mark stays. Other data that is acknowledged is taken.
-unfoldable pub afterSetup : Judged0 → Control → List ℕ → Control
+unfoldable pub afterSetup : Judged → Control → List ℕ → Control
 afterSetup j c s = pick (isAck j) (pick (c .mark) c (taken c s)) (setupDropped c)
 
-abbrev pub afterSetupBytes : Judged0 → Control → List ℕ → List ℕ → List ℕ
+abbrev pub afterSetupBytes : Judged → Control → List ℕ → List ℕ → List ℕ
 afterSetupBytes j c s m = pick (isAck j) (pick (c .mark) m (takenBytes c s m)) m
 
 abbrev pub receivedSetup : Bool → Bool → Control → List ℕ → Control

@@ -2,11 +2,12 @@
 // What is answered and the state after it are two functions, and the second goes by the first. The definitions that the contracts cite are
 // in specs/.
 ghost use mathlib.Core.Path.{_≡_};
-ghost use Rattle.controlbus.specs.Bus.{disabled, answerIn, sent, handshake, heard, isAck, judgeOut, Received, Stored, outToken};
+ghost use Rattle.controlbus.specs.Bus.{disabled, answerIn, sent, handshake, judgeOut, Received, Stored, outToken};
 use control::Control;
 pub use setup::judge_setup;
 pub use setup::received_setup;
 pub use setup::setup_dropped;
+use verdict::Judged;
 
 pub mod setup;
 
@@ -17,40 +18,6 @@ pub enum Sent0 {
     Stall,
     Data0,
     Data1,
-}
-
-// What data finds; an overrun is NAK with the overrun bit and without its NAKEV bit.
-pub enum Judged0 {
-    Silence,
-    Nak,
-    Stall,
-    Overrun,
-    Ack,
-}
-
-impl Judged0 {
-    // Unsound data is met with silence.
-    fn heard(self, sound: bool) -> Judged0
-        ensures { λ r. ⌜ r ≡ heard sound self ⌝ }
-    {
-        if sound {
-            return self;
-        }
-        Judged0::Silence
-    }
-
-    // Whether the data is acknowledged.
-    pub fn is_ack(self) -> bool
-        ensures { λ r. ⌜ r ≡ isAck self ⌝ }
-    {
-        match self {
-            Judged0::Silence => false,
-            Judged0::Nak => false,
-            Judged0::Stall => false,
-            Judged0::Overrun => false,
-            Judged0::Ack => true,
-        }
-    }
 }
 
 // Not enabled to send.
@@ -129,23 +96,23 @@ pub fn handshake(mut c: Control, acked: bool) -> Control
 }
 
 // What data after an OUT token finds.
-pub fn judge(c: Control, sound: bool, count: usize) -> Judged0
+pub fn judge(c: Control, sound: bool, count: usize) -> Judged
     ensures { λ r. ⌜ r ≡ judgeOut sound count c ⌝ }
 {
     if c.ignout {
-        return Judged0::Silence;
+        return Judged::Silence;
     }
     if c.receives {
         if c.stall {
-            return Judged0::Stall.heard(sound);
+            return Judged::Stall.heard(sound);
         }
         let f = c.fifo;
         if f.fits(count) {
-            return Judged0::Ack.heard(sound);
+            return Judged::Ack.heard(sound);
         }
-        return Judged0::Overrun.heard(sound);
+        return Judged::Overrun.heard(sound);
     }
-    Judged0::Nak.heard(sound)
+    Judged::Nak.heard(sound)
 }
 
 // The state after that data.
@@ -154,15 +121,15 @@ pub fn received(mut c: Control, memory: &mut [u8; 392], pid: bool, sound: bool, 
 {
     let judged = judge(c, sound, s.len());
     match judged {
-        Judged0::Silence => c,
-        Judged0::Nak => c,
-        Judged0::Stall => {
+        Judged::Silence => c,
+        Judged::Nak => c,
+        Judged::Stall => {
             c.receives = false;
             c.last = true;
             c
         }
-        Judged0::Overrun => c,
-        Judged0::Ack => stored(c, memory, pid, s),
+        Judged::Overrun => c,
+        Judged::Ack => stored(c, memory, pid, s),
     }
 }
 

@@ -1,8 +1,8 @@
 // Endpoint 0 at a SETUP token: its data, or another bus event that comes instead of it.
 ghost use mathlib.Core.Path.{_≡_};
 ghost use Rattle.controlbus.specs.Setup.{refused, judgeSetup, TakenSetup, ReceivedSetup, setupDropped};
-use crate::Judged0;
 use control::Control;
+use verdict::Judged;
 
 // Data that no SETUP takes, or IGN_SETUP.
 fn refused(c: Control, pid: bool, sound: bool, count: usize) -> bool
@@ -21,20 +21,20 @@ fn refused(c: Control, pid: bool, sound: bool, count: usize) -> bool
 }
 
 // What data after a SETUP token finds.
-pub fn judge_setup(c: Control, pid: bool, sound: bool, count: usize) -> Judged0
+pub fn judge_setup(c: Control, pid: bool, sound: bool, count: usize) -> Judged
     ensures { λ r. ⌜ r ≡ judgeSetup pid sound count c ⌝ }
 {
     if refused(c, pid, sound, count) {
-        return Judged0::Silence;
+        return Judged::Silence;
     }
     if c.mark {
-        return Judged0::Ack;
+        return Judged::Ack;
     }
     let f = c.fifo;
     if f.rcount() != 0 {
-        return Judged0::Silence;
+        return Judged::Silence;
     }
-    Judged0::Ack
+    Judged::Ack
 }
 
 // The state after that data. A repeat, found by the mark, is dropped and counts as taken.

@@ -1,3 +1,2 @@
--- Events and refusals.
+-- The events.
 pub mod Event
-pub mod Refusal

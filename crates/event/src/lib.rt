@@ -1,10 +1,9 @@
-// The events that the chip takes one at a time, the ranges of their fields, and why an event is refused.
+// The events that the chip takes one at a time, and the ranges of their fields.
 // The definitions that the contracts cite are in specs/.
 ghost use mathlib.Core.Path.{_≡_};
 ghost use mathlib.Core.Bool.{_&&_};
 ghost use lib.Dec.{leb};
 ghost use Rattle.event.specs.Event.{inRange};
-ghost use Rattle.event.specs.Refusal.{numberOf};
 
 // A bus endpoint number, 0 to 15, as tokens and the EPC registers have it.
 pub struct BusEndpoint(pub u8);
@@ -25,34 +24,12 @@ pub enum Event {
     Timeout,
 }
 
-// Why a record cannot be read, in the order of document 01: 1, 2, 3, 4.
-pub enum Refusal {
-    Cut,
-    NotShortest,
-    NoKind,
-    OutOfRange,
-}
-
 impl BusEndpoint {
     // Whether it is one that a token can name: 0 to 15.
     pub fn within(self) -> bool
         ensures { λ r. ⌜ r ≡ leb (self .0) 15 ⌝ }
     {
         self.0 <= 15
-    }
-}
-
-impl Refusal {
-    // Document 01's number.
-    pub fn number(self) -> u8
-        ensures { λ r. ⌜ r ≡ numberOf self ⌝ }
-    {
-        match self {
-            Refusal::Cut => 1,
-            Refusal::NotShortest => 2,
-            Refusal::NoKind => 3,
-            Refusal::OutOfRange => 4,
-        }
     }
 }
 

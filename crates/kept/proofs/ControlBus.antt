@@ -13,8 +13,8 @@ use Rattle.control.specs.State.{wellFormed, withReceives, withMark}
 use Rattle.kept.proofs.Control.{in-order, well, spend0-in-order, fill0-in-order}
 use Rattle.controlbus.specs.declared.Sent0.{Sent0}
 use Rattle.controlbus.specs.declared.Sent0.the-variants as answer
-use Rattle.controlbus.specs.declared.Judged0.{Judged0}
-use Rattle.controlbus.specs.declared.Judged0.the-variants as judged
+use Rattle.verdict.specs.declared.Judged.{Judged}
+use Rattle.verdict.specs.declared.Judged.the-variants as judged
 use Rattle.controlbus.specs.Bus.{answerIn, afterIn, sent, handshake, judgeOut, stored, afterOut, received, outToken}
 use Rattle.controlbus.specs.Setup.{setupDropped, taken, afterSetup, receivedSetup}
 
@@ -57,7 +57,7 @@ module _ (c : Control) (h : Well c) (k : Counters (c .fifo .read) (c .fifo .writ
   unfolding stored
   stored-keeps = by-test Well _ (λ _. disarmed-keeps c h) (λ _. well true _ (fill0-in-order (c .fifo) k (in-order true c h) s) refl)
 
-  after-out-keeps : (j : Judged0) → Well (afterOut j pid c s)
+  after-out-keeps : (j : Judged) → Well (afterOut j pid c s)
   unfolding wellFormed
   after-out-keeps judged.Silence = h
   after-out-keeps judged.Nak = h

@@ -15,10 +15,11 @@ use Rattle.rxfifo.specs.Receive.{resetRx, takeRx, fitsRx, fillRx, fillRxBytes}
 use Rattle.epc.specs.declared.Epc.{Epc}
 use Rattle.epc.specs.Bits.{bitOf, has, odd}
 use Rattle.epc.specs.Epc.{resetEpc}
+use Rattle.verdict.specs.declared.Judged.{Judged}
+use Rattle.verdict.specs.declared.Judged.the-variants.{Silence, Nak, Stall, Overrun, Ack}
+use Rattle.verdict.specs.Verdict.{heard}
 use Rattle.receiver.specs.declared.Receiver.{Receiver}
 use Rattle.receiver.specs.declared.TakenByte.{TakenByte}
-use Rattle.receiver.specs.declared.Judged.{Judged}
-use Rattle.receiver.specs.declared.Judged.the-variants.{Silence, Nak, Stall, Overrun, Ack}
 
 -- "Reset: all zero"
 abbrev pub resetReceiver : Receiver
@@ -109,18 +110,14 @@ takeByte n s m =
       taken = takeRx n (s .fifo) m .taken;
     }
 
--- "(unsound: silence)"
-abbrev pub ifSound : Bool → Judged → Judged
-ifSound sound answer = pick sound answer Silence
-
 -- Data after OUT, "In order: .. RX_EN clear, NAK and its bit (unsound data: silence); STALL (unsound: silence) answers STALL, ..; no room
 -- (on 2, 4, 6 level plus count over 64; ..), overrun bit and NAK without its NAKEV bit, .. (unsound: silence); unsound, silence, ..; count 0,
 -- ACK, ..; else stored, ACK, ..": an ACK for every count
 unfoldable pub judged : Bool → ℕ → Receiver → Judged
 judged sound count s =
-    pick (not (s .enabled)) (ifSound sound Nak)
-    (pick (s .epc .stall) (ifSound sound Stall)
-    (pick (not (fitsRx (s .fifo) count)) (ifSound sound Overrun)
+    pick (not (s .enabled)) (heard sound Nak)
+    (pick (s .epc .stall) (heard sound Stall)
+    (pick (not (fitsRx (s .fifo) count)) (heard sound Overrun)
     (pick (not sound) Silence
     Ack)))
 

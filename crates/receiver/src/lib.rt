@@ -5,6 +5,7 @@ ghost use Rattle.receiver.specs.Receiver.{resetReceiver, statusOf, clear
 ghost use Rattle.receiver.specs.Receiver.{judged, ReceivedData, stopped, wellFormed};
 use epc::Epc;
 use rxfifo::RxFifo;
+use verdict::Judged;
 use window::FifoNumber;
 
 // `err`, `setup`, `toggle`, `last` are RX_ERR, SETUP, TOGGLE and RX_LAST of RXS; `middle` is RXC 6..5, `ignore` IGN_SETUP, `enabled` RX_EN.
@@ -19,15 +20,6 @@ pub struct Receiver {
     pub middle: u8,
     pub ignore: bool,
     pub enabled: bool,
-}
-
-// What data after OUT is answered: nothing, NAK with its NAKEV bit, STALL, NAK with the overrun bit and without its NAKEV bit, ACK.
-pub enum Judged {
-    Silence,
-    Nak,
-    Stall,
-    Overrun,
-    Ack,
 }
 
 // What a read of RXD gives: the next state, the byte, and whether it was taken by this read.

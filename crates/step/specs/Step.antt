@@ -11,11 +11,12 @@ use Rattle.state.specs.declared.Chip.{Chip}
 use Rattle.reads.specs.Read.{readOf}
 use Rattle.settings.specs.Settings.{operational}
 use Rattle.writes.specs.Write.{writeOf, bytesOf}
-use Rattle.bus.specs.declared.Out.{Out}
-use Rattle.bus.specs.declared.Answer.the-variants.{Value}
-use Rattle.bus.specs.Bus.{gives, silent, inToken, outToken, setupToken}
-use Rattle.bus.specs.Ends.{ended, dropped}
-use Rattle.bus.specs.Payload.{dataNow, dataNowBytes}
+use Rattle.answer.specs.declared.Out.{Out}
+use Rattle.answer.specs.declared.Answer.the-variants.{Value}
+use Rattle.answer.specs.Answer.{gives, silent}
+use Rattle.ends.specs.Ends.{ended, dropped}
+use Rattle.data.specs.Data.{dataNow, dataNowBytes}
+use Rattle.bus.specs.Bus.{inToken, outToken, setupToken}
 
 -- "The wait ends at the next bus event; one that isn't ACK is then handled itself"; of awaited data: "another bus event drops it"
 unfoldable pub quiet : Bool → Chip → Chip

@@ -2,11 +2,11 @@
 // Every state and every event has its answer. The definitions that the contracts cite are in specs/.
 ghost use mathlib.Core.Path.{_≡_};
 ghost use lib.Dec.{eqb};
-ghost use Rattle.bus.specs.Payload.{Gives};
+ghost use Rattle.answer.specs.Answer.{Gives};
 ghost use Rattle.step.specs.Step.{quiet, readStep, writeStep, inStep, outStep, setupStep, dataStep, dataStepBytes, endStep, stepOf, stepBytes};
 ghost use Rattle.writes.specs.Write.{bytesOf};
-use bus::Answer;
-use bus::Out;
+use answer::Answer;
+use answer::Out;
 use event::BusEndpoint;
 use event::Event;
 use state::Chip;
@@ -31,7 +31,7 @@ pub fn step(c: Chip, memory: &mut [u8; 392], event: Event, s: &[u8]) -> Out
 fn quiet(c: Chip, acked: bool) -> Chip
     ensures { λ r. ⌜ r ≡ quiet acked c ⌝ }
 {
-    bus::ends::dropped(bus::ends::ended(c, acked))
+    ends::dropped(ends::ended(c, acked))
 }
 
 fn read(c: Chip, memory: &[u8; 392], address: u8) -> Out
@@ -49,7 +49,7 @@ fn write(c: Chip, memory: &mut [u8; 392], address: u8, v: u8) -> Out
     ensures { λ r. ⌜ Gives (writeStep address v c) (bytesOf address v c (now (memory .entry))) r (now (memory .exit)) ⌝ }
 {
     let n = writes::write(c, memory, address, v);
-    bus::silent(n)
+    answer::silent(n)
 }
 
 fn in_event(c: Chip, address: u8, endpoint: BusEndpoint) -> Out
@@ -58,7 +58,7 @@ fn in_event(c: Chip, address: u8, endpoint: BusEndpoint) -> Out
     if settings::operational(c) {
         return bus::in_token(quiet(c, false), address, endpoint);
     }
-    bus::silent(c)
+    answer::silent(c)
 }
 
 fn out_event(c: Chip, address: u8, endpoint: BusEndpoint) -> Out
@@ -67,7 +67,7 @@ fn out_event(c: Chip, address: u8, endpoint: BusEndpoint) -> Out
     if settings::operational(c) {
         return bus::out_token(quiet(c, false), address, endpoint);
     }
-    bus::silent(c)
+    answer::silent(c)
 }
 
 fn setup_event(c: Chip, address: u8, endpoint: BusEndpoint) -> Out
@@ -76,23 +76,23 @@ fn setup_event(c: Chip, address: u8, endpoint: BusEndpoint) -> Out
     if settings::operational(c) {
         return bus::setup_token(quiet(c, false), address, endpoint);
     }
-    bus::silent(c)
+    answer::silent(c)
 }
 
 fn data_event(c: Chip, memory: &mut [u8; 392], pid: bool, sound: bool, s: &[u8]) -> Out
     ensures { λ r. ⌜ Gives (dataStep pid sound (now (s .entry)) c) (dataStepBytes pid sound (now (s .entry)) c (now (memory .entry))) r (now (memory .exit)) ⌝ }
 {
     if settings::operational(c) {
-        return bus::payload::data(bus::ends::ended(c, false), memory, pid, sound, s);
+        return data::data(ends::ended(c, false), memory, pid, sound, s);
     }
-    bus::silent(c)
+    answer::silent(c)
 }
 
 fn end_event(c: Chip, acked: bool) -> Out
     ensures { λ r. ⌜ r ≡ endStep acked c ⌝ }
 {
     if settings::operational(c) {
-        return bus::silent(quiet(c, acked));
+        return answer::silent(quiet(c, acked));
     }
-    bus::silent(c)
+    answer::silent(c)
 }

@@ -1,7 +1,7 @@
 -- Document 01's number and values for each case of the reader's answers.
 use Prim.Native.Nat.{ℕ}
 use mathlib.Core.List.{[], _∷_}
-use Rattle.event.specs.Refusal.{numberOf}
+use Rattle.refusal.specs.Refusal.{numberOf}
 use Rattle.trace.specs.declared.Token.{Token}
 use Rattle.trace.specs.declared.Token.the-variants as token
 use Rattle.trace.specs.declared.Found.{Found}

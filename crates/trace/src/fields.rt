@@ -4,7 +4,7 @@ ghost use mathlib.Core.List.{[], _∷_};
 ghost use Rattle.trace.specs.Number.{numberAt};
 ghost use Rattle.trace.specs.Record.{fieldsAt};
 ghost use Rattle.trace.specs.Meaning.{takenOf, oneOf, twoOf, threeOf};
-use event::Refusal;
+use refusal::Refusal;
 
 // A number with the place after it.
 pub enum Taken {

@@ -8,11 +8,11 @@ ghost use Rattle.trace.specs.Record.{fieldsAt, readAt, recordAt, bodyAt,
 ghost use Rattle.trace.specs.Meaning.{tokenKind, meaning};
 use event::BusEndpoint;
 use event::Event;
-use event::Refusal;
 use fields::One;
 use fields::Taken;
 use fields::Three;
 use fields::Two;
+use refusal::Refusal;
 
 mod fields;
 

@@ -1,6 +1,6 @@
 -- `all_held` meets its contract, from those of its parts.
 -- Assumes nothing.
-use Rattle.bus.specs.Bus.{packetOf}
+use Rattle.answer.specs.Answer.{packetOf}
 use borrow.Author.Needs.{needs}
 use Rattle.bus.proofs.all_held.Statement.{statement}
 use Rattle.bus.proofs.all_held.Tie as tie

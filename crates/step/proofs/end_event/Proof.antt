@@ -1,7 +1,7 @@
 -- `end_event` meets its contract: only in the operational state.
 -- Assumes nothing.
 use borrow.Author.Needs.{needs}
-use Rattle.bus.specs.Bus.{silent}
+use Rattle.answer.specs.Answer.{silent}
 use Rattle.step.specs.Step.{endStep}
 use mathlib.Core.Path.{sym, ap, _∙_}
 use Rattle.choice.specs.Choice.{pick}

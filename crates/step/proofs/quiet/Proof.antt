@@ -1,7 +1,7 @@
 -- `quiet` meets its contract: the wait ends, then awaited data is dropped.
 -- Assumes nothing.
 use borrow.Author.Needs.{needs}
-use Rattle.bus.specs.Ends.{dropped}
+use Rattle.ends.specs.Ends.{dropped}
 use Rattle.step.specs.Step.{quiet}
 use mathlib.Core.Path.{ap, _∙_}
 use Rattle.step.proofs.quiet.Statement.{statement}

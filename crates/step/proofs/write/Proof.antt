@@ -1,7 +1,7 @@
 -- `write` meets its contract, from that of the register write.
 -- Assumes nothing.
 use borrow.Author.Needs.{needs}
-use Rattle.bus.specs.Bus.{silent}
+use Rattle.answer.specs.Answer.{silent}
 use Rattle.step.specs.Step.{writeStep}
 use mathlib.Core.Path.{ap, _∙_}
 use Rattle.step.proofs.write.Statement.{statement}

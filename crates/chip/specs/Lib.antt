@@ -1,0 +1,2 @@
+-- The definitions that the contracts of the checked functions cite.
+pub mod Checked

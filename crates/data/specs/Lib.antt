@@ -1,0 +1,2 @@
+-- The definitions that the contracts of data cite.
+pub mod Data

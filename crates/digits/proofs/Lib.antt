@@ -1,0 +1,3 @@
+-- Text in a buffer, and the digits of a number.
+pub mod Figures
+pub mod Places

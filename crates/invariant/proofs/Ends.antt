@@ -1,0 +1,83 @@
+-- The end of a wait keeps a state well formed, in the operational state.
+-- Assumes nothing.
+use Prim.Native.Nat.{ℕ}
+use mathlib.Core.Bool.{Bool, true}
+use Rattle.choice.proofs.ByTest.{by-test}
+use Rattle.window.specs.declared.FifoNumber.{FifoNumber}
+use Rattle.window.specs.Window.{indexOf}
+use Rattle.sender.specs.declared.Sender.{Sender}
+use Rattle.control.specs.declared.Control.{Control}
+use Rattle.kept.proofs.Sender as kept-sender
+use Rattle.kept.proofs.Control as kept-control
+use Rattle.kept.proofs.ControlBus as kept-bus
+use Rattle.state.specs.declared.Endpoint.{Endpoint}
+use Rattle.state.specs.declared.Wait.{Wait}
+use Rattle.state.specs.declared.Wait.the-variants.{Nothing, Handshake, Data, Setup}
+use Rattle.state.specs.declared.Chip.{Chip}
+use Rattle.state.specs.State.{senderAt, nothing, fifoOf}
+use Rattle.ends.specs.Ends.{idled, doneFlush, doneByte, senderByte, endedZero, endedSender, endedAt, endedIn, ended, droppedSetup, droppedIn, dropped}
+use Rattle.typed.specs.Typed.{Byte, TypedChip}
+use Rattle.invariant.proofs.Facts.{WellSender, Facts, with-control-well, with-sender-well, with-pending-well}
+use Rattle.invariant.proofs.Pending.{nothing-well}
+
+module _ (z : Control) (h : kept-bus.Well z) where
+  done-flush-well : (flush : Bool) → kept-bus.Well (doneFlush flush z)
+  unfolding doneFlush
+  done-flush-well flush = by-test kept-bus.Well flush (λ _. kept-control.flushed-keeps true z h) (λ _. h)
+
+  done-byte-well : (holds : Bool) (v : ℕ) → kept-bus.Well (doneByte holds v z)
+  unfolding doneByte
+  done-byte-well holds v = by-test kept-bus.Well holds (λ _. kept-control.tx-command-keeps true z h v) (λ _. h)
+
+sender-byte-well : (holds : Bool) (v : ℕ) (s : Sender) → Byte v → WellSender true s → WellSender true (senderByte holds v s)
+unfolding senderByte
+sender-byte-well holds v s small h = by-test (WellSender true) holds (λ _. kept-sender.command-keeps true v s small h) (λ _. h)
+
+-- Nothing awaited any more.
+pub idled-facts : (o : Bool) (c : Chip) → Facts o c → Facts o (idled c)
+unfolding idled
+idled-facts o c f = with-pending-well o c f nothing (nothing-well o)
+
+module _ (c : Chip) (t : TypedChip c) (f : Facts true c) where
+  ended-zero-facts : (acked : Bool) → Facts true (endedZero acked c)
+  unfolding endedZero
+  ended-zero-facts acked =
+      let h : _ = kept-bus.handshake-keeps (c .control) (f .control) acked in
+      let d : _ = done-flush-well _ h (c .pending .flush) in
+      idled-facts true _ (with-control-well true c f _ (done-byte-well _ d (c .pending .holds) (c .pending .held)))
+
+  ended-sender-facts : (n : FifoNumber) (acked : Bool) → Facts true (endedSender n acked c)
+  unfolding endedSender
+  ended-sender-facts n acked =
+      let h : _ = kept-sender.handshake-keeps true acked (senderAt n c) (f .senders (indexOf n)) in
+      let s : _ = sender-byte-well (c .pending .holds) (c .pending .held) _ (t .pending .held-byte) h in
+      idled-facts true _ (with-sender-well true c f n _ s)
+
+  ended-at-facts : (e : Endpoint) (acked : Bool) → Facts true (endedAt e acked c)
+  unfolding endedAt
+  ended-at-facts e acked = by-test (Facts true) _ (λ _. ended-zero-facts acked) (λ _. ended-sender-facts (fifoOf e) acked)
+
+  ended-in-facts : (w : Wait) (acked : Bool) → Facts true (endedIn w acked c)
+  ended-in-facts Nothing acked = f
+  ended-in-facts (Handshake e) acked = ended-at-facts e acked
+  ended-in-facts (Data e) acked = f
+  ended-in-facts Setup acked = f
+
+  -- After the end of the wait for a handshake, with what was held meanwhile.
+  pub ended-facts : (acked : Bool) → Facts true (ended acked c)
+  ended-facts acked = ended-in-facts (c .pending .wait) acked
+
+module _ (c : Chip) (f : Facts true c) where
+  dropped-setup-facts : Facts true (droppedSetup c)
+  unfolding droppedSetup
+  dropped-setup-facts = idled-facts true _ (with-control-well true c f _ (kept-bus.setup-dropped-keeps (c .control) (f .control)))
+
+  dropped-in-facts : (w : Wait) → Facts true (droppedIn w c)
+  dropped-in-facts Nothing = f
+  dropped-in-facts (Handshake e) = f
+  dropped-in-facts (Data e) = idled-facts true c f
+  dropped-in-facts Setup = dropped-setup-facts
+
+  -- After another bus event instead of awaited data.
+  pub dropped-facts : Facts true (dropped c)
+  dropped-facts = dropped-in-facts (c .pending .wait)

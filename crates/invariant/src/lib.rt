@@ -1,0 +1,1 @@
+// Every event leaves a well-formed state well formed: theorems, no code.

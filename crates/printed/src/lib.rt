@@ -1,0 +1,1 @@
+// The laws of text in a buffer: no code.

@@ -1,0 +1,2 @@
+-- The definitions that the contracts of what data finds cite.
+pub mod Verdict
