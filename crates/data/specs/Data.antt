@@ -1,6 +1,6 @@
 -- What data leaves in the chip's state and in the lent memory, and what is answered to it, by what is awaited.
 use Prim.Native.Nat.{ℕ}
-use mathlib.Core.Bool.{Bool, true, false}
+use mathlib.Core.Bool.{Bool}
 use mathlib.Core.List.{List}
 use lib.ListN.{length}
 use lib.Dec.{eqb}

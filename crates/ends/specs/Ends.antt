@@ -1,6 +1,6 @@
 -- The end of a wait: for a handshake, with what was held meanwhile, and for data that another bus event came instead of.
 use Prim.Native.Nat.{ℕ}
-use mathlib.Core.Bool.{Bool, true, false}
+use mathlib.Core.Bool.{Bool, true}
 use lib.Dec.{eqb}
 use Rattle.choice.specs.Choice.{pick}
 use Rattle.window.specs.declared.FifoNumber.{FifoNumber}

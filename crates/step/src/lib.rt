@@ -1,7 +1,6 @@
 // One event on the whole chip: a register access, or a bus event, which in the operational state first ends what was awaited.
 // Every state and every event has its answer. The definitions that the contracts cite are in specs/.
 ghost use mathlib.Core.Path.{_≡_};
-ghost use lib.Dec.{eqb};
 ghost use Rattle.answer.specs.Answer.{Gives};
 ghost use Rattle.step.specs.Step.{quiet, readStep, writeStep, inStep, outStep, setupStep, dataStep, dataStepBytes, endStep, stepOf, stepBytes};
 ghost use Rattle.writes.specs.Write.{bytesOf};
