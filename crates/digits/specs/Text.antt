@@ -1,6 +1,6 @@
 -- Text written into a buffer, and numbers and bytes as ASCII digits.
 -- 01: "Hex: two capital digits a byte, no spaces; n, p decimal".
-use Prim.Native.Nat.{ℕ, zero, suc, _+_, _/_, _%_}
+use Prim.Native.Nat.{ℕ, zero, suc, _+_, _/_, _%_, _≤_}
 use mathlib.Core.Path.{_≡_}
 use mathlib.Core.List.{List, [], _∷_, _++_}
 use lib.ListN.{length, set}
@@ -33,7 +33,8 @@ hexDigit d = pick (ltb d 10) (digit d) (55 + d)
 abbrev pub hexByte : ℕ → List ℕ
 hexByte b = hexDigit (b / 16) ∷ hexDigit (b % 16) ∷ []
 
--- a number written: how many digits, and the buffer
+-- a number written: how many digits, which for a u64 are 20 at most, and the buffer
 pub record Written (at n : ℕ) (out : List ℕ) (r : ℕ) (out′ : List ℕ) : Type 0 where
   pub width : r ≡ length (decimal n)
+  pub most : r ≤ 20
   pub bytes : out′ ≡ overlay at (decimal n) out

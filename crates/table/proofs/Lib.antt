@@ -1,2 +1,6 @@
--- Document 01's table of worked examples.
+-- Document 01's worked examples.
+pub mod Text
 pub mod Worked
+pub mod Counts
+pub mod Runs
+pub mod Unreached

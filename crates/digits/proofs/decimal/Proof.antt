@@ -8,6 +8,7 @@ use lib.ListN.{length}
 use borrow.Author.Needs.{needs}
 use Rattle.digits.specs.Text.{overlay, digit, decimal}
 use Rattle.digits.proofs.Figures.{decimal-one, decimal-more, length-more, length-some}
+use Rattle.digits.proofs.Most.{decimal-within}
 use Rattle.digits.proofs.Places.{last-byte, same-place}
 use Rattle.digits.proofs.decimal.Statement.{statement}
 use Rattle.digits.proofs.decimal.Tie as tie
@@ -83,8 +84,10 @@ same-length c = search needs
 returns : tie.Need-returns Inv-loop μ-loop
 returns c =
     let call = c .before .before in
-    let turns = call .before .before .before in record {
+    let turns = call .before .before .before in
+    let start = turns .before .before .before .before .before in record {
       width = turns .before .before .width .ensures;
+      most = rw (turns .before .before .width .ensures) (decimal-within _ 19 (omega (arith, start .fits .n .fits)));
       bytes =
           rw (call .put2 .ensures, call .before .last-digit2 .ensures)
           (sym (last _ _ _ _ (turns .loop-test .left) (turns .before .loop .inv .0)) ∙ turns .before .loop .inv .2);

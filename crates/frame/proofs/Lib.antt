@@ -1,0 +1,16 @@
+-- The laws.
+pub mod Owners
+pub mod Parts
+pub mod Bytes
+pub mod Accesses
+pub mod Registers
+pub mod BusEvents
+pub mod Waits
+pub mod Taking
+pub mod Matching
+pub mod Events
+pub mod Frame
+pub mod Settled
+pub mod Awaits
+pub mod Lowest
+pub mod Pipes

@@ -1,0 +1,1 @@
+// The laws of a run's lines: no code.

@@ -1,0 +1,2 @@
+-- The bytes of a packet: how many, and one after the other.
+pub mod Turns
