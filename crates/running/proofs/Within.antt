@@ -25,7 +25,7 @@ pub record Numbers (r : Running) : Type 0 where
   pub place : r .spot .place < 18446744073709551616
   pub number : r .spot .number < 18446744073709551616
 
-line-short : (e : Event) (s : List ℕ) (p : Spot) → p .number < 18446744073709551616 → length (lineOf e s p) ≤ 158
+pub line-short : (e : Event) (s : List ℕ) (p : Spot) → p .number < 18446744073709551616 → length (lineOf e s p) ≤ 158
 unfolding lineOf
 line-short e s p small = line-longest (p .number) _ _ _ small
 

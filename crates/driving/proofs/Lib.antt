@@ -1,0 +1,6 @@
+-- The laws of the driver's calls.
+pub mod Reached
+pub mod Kept
+pub mod Refused
+pub mod Outcome
+pub mod Packet

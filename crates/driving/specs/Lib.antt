@@ -1,0 +1,2 @@
+-- Which registers the driver's calls touch.
+pub mod Touches

@@ -1,0 +1,3 @@
+-- Running in parts is running at once.
+pub mod Fuel
+pub mod Parts
