@@ -1,0 +1,130 @@
+-- What the host holds and what the chip awaits after each turn of the host.
+-- Assumes nothing.
+use native.Mathlib.Omega.{arith}
+use mathlib.Core.Path.{_≡_, refl, sym, _∙_}
+use mathlib.Core.Bool.{Bool, true, false, false≢true}
+use mathlib.Core.Logic.{inl, inr}
+use Rattle.choice.proofs.ByTest.{by-test}
+use Rattle.state.specs.declared.Wait.the-variants.{Nothing}
+use Rattle.state.specs.declared.Chip.{Chip}
+use Rattle.settings.specs.Settings.{numbered}
+use Rattle.answer.specs.declared.Answer.{Answer}
+use Rattle.answer.specs.declared.Answer.the-variants as answer
+use Rattle.frame.specs.Place.{Place, sends, receives, awaited}
+use Rattle.frame.specs.Driver.{Piped, endpoint1, endpoint2}
+use Rattle.world.specs.Host.{Open, over, acks, fails, datas, others, Host, isOver, isAcks, isDatas}
+use Rattle.world.specs.World.{goes, sees, hostIn, hostOut, afterToken}
+use Rattle.standing.specs.Standing.{endpoint, Awaits, Holding}
+use Rattle.standing.proofs.Waits.{Sent-waits, Refused-waits}
+use Rattle.standing.proofs.Events.{no-bytes}
+
+-- ---- the host
+
+pub goes-holding : (o : Open) (h : Host) → isDatas o ≡ false → Holding h → Holding (goes o h)
+unfolding goes
+goes-holding o h n g =
+    record { bytes = g .bytes; fits = g .fits; some = g .some; sending = λ e. absurd {0} (false≢true (sym n ∙ e)) }
+
+sees-holding : (pid : Bool) (h : Host) → Holding h → Holding (sees pid h)
+unfolding sees isDatas
+sees-holding pid h g = record { bytes = g .bytes; fits = g .fits; some = g .some; sending = λ e. absurd {0} (false≢true e) }
+
+pub in-holding : (seen : Bool) (x : Answer) (h : Host) → Holding h → Holding (hostIn seen x h)
+unfolding hostIn isDatas
+in-holding false x h g = goes-holding fails h refl g
+in-holding true answer.Silence h g = goes-holding fails h refl g
+in-holding true (answer.Value v) h g = goes-holding fails h refl g
+in-holding true (answer.Data0 p) h g = sees-holding false h g
+in-holding true (answer.Data1 p) h g = sees-holding true h g
+in-holding true answer.Broken h g = goes-holding fails h refl g
+in-holding true answer.Ack h g = goes-holding fails h refl g
+in-holding true answer.Nak h g = goes-holding over h refl g
+in-holding true answer.Stall h g = goes-holding over h refl g
+
+pub out-holding : (acked : Bool) (h : Host) → Holding h → Holding (hostOut acked h)
+unfolding hostOut isDatas
+out-holding acked h g =
+    by-test Holding acked
+    (λ _. record {
+      bytes = no-bytes;
+      fits = omega arith;
+      some = λ e. absurd {0} (false≢true e);
+      sending = λ e. absurd {0} (false≢true e);
+    })
+    (λ _. goes-holding over h refl g)
+
+pub token-not-datas : (x : Answer) → isDatas (afterToken x) ≡ false
+unfolding afterToken isDatas
+token-not-datas answer.Silence = refl
+token-not-datas (answer.Value v) = refl
+token-not-datas (answer.Data0 p) = refl
+token-not-datas (answer.Data1 p) = refl
+token-not-datas answer.Broken = refl
+token-not-datas answer.Ack = refl
+token-not-datas answer.Nak = refl
+token-not-datas answer.Stall = refl
+
+-- ---- what is awaited
+
+-- where the host is over, nothing is; so after its IN token was lost
+pub over-none : (o : Open) (c : Chip) → isOver o ≡ true → Awaits o c → c .pending .wait ≡ Nothing
+unfolding isOver Awaits
+over-none over c t h = h
+over-none acks c t h = absurd {0} (false≢true t)
+over-none fails c t h = absurd {0} (false≢true t)
+over-none datas c t h = absurd {0} (false≢true t)
+over-none others c t h = absurd {0} (false≢true t)
+
+pub acks-fail : (o : Open) (c : Chip) → isAcks o ≡ true → Awaits o c → Awaits fails c
+unfolding isAcks Awaits
+acks-fail over c t h = absurd {0} (false≢true t)
+acks-fail acks c t h = inr (inl h)
+acks-fail fails c t h = absurd {0} (false≢true t)
+acks-fail datas c t h = absurd {0} (false≢true t)
+acks-fail others c t h = absurd {0} (false≢true t)
+
+pub datas-fail : (o : Open) (c : Chip) → isDatas o ≡ true → Awaits o c → Awaits fails c
+unfolding isDatas Awaits
+datas-fail over c t h = absurd {0} (false≢true t)
+datas-fail acks c t h = absurd {0} (false≢true t)
+datas-fail fails c t h = absurd {0} (false≢true t)
+datas-fail datas c t (inl h) = inl h
+datas-fail datas c t (inr h) = inr (inr h)
+datas-fail others c t h = absurd {0} (false≢true t)
+
+-- after its IN token: by the answer, seen or not
+unseen : (x : Answer) (c : Chip) → Sent-waits (endpoint 1) x (c .pending .wait) → Awaits fails c
+unfolding Sent-waits Awaits
+unseen answer.Silence c h = inl h
+unseen (answer.Value v) c h = inl h
+unseen (answer.Data0 p) c h = inr (inl h)
+unseen (answer.Data1 p) c h = inr (inl h)
+unseen answer.Broken c h = inl h
+unseen answer.Ack c h = inl h
+unseen answer.Nak c h = inl h
+unseen answer.Stall c h = inl h
+
+pub in-awaits : (seen : Bool) (x : Answer) (h : Host) (c : Chip) → Sent-waits (endpoint 1) x (c .pending .wait) → Awaits (hostIn seen x h .at) c
+unfolding hostIn goes sees
+in-awaits false x h c k = unseen x c k
+in-awaits true answer.Silence h c k = unseen answer.Silence c k
+in-awaits true (answer.Value v) h c k = unseen (answer.Value v) c k
+in-awaits true (answer.Data0 p) h c k = unfold Sent-waits Awaits in k
+in-awaits true (answer.Data1 p) h c k = unfold Sent-waits Awaits in k
+in-awaits true answer.Broken h c k = unseen answer.Broken c k
+in-awaits true answer.Ack h c k = unseen answer.Ack c k
+in-awaits true answer.Nak h c k = unfold Sent-waits Awaits in k
+in-awaits true answer.Stall h c k = unfold Sent-waits Awaits in k
+
+-- after a token of another transaction
+pub token-awaits : (x : Answer) (c : Chip) → Refused-waits x (c .pending .wait) → ((q : Place) → Piped q → awaited q c ≡ false)
+    → Awaits (afterToken x) c
+unfolding afterToken Refused-waits Awaits
+token-awaits answer.Silence c h free = (free (sends (numbered 1)) endpoint1, free (receives (numbered 1)) endpoint2)
+token-awaits (answer.Value v) c h free = (free (sends (numbered 1)) endpoint1, free (receives (numbered 1)) endpoint2)
+token-awaits (answer.Data0 p) c h free = (free (sends (numbered 1)) endpoint1, free (receives (numbered 1)) endpoint2)
+token-awaits (answer.Data1 p) c h free = (free (sends (numbered 1)) endpoint1, free (receives (numbered 1)) endpoint2)
+token-awaits answer.Broken c h free = (free (sends (numbered 1)) endpoint1, free (receives (numbered 1)) endpoint2)
+token-awaits answer.Ack c h free = (free (sends (numbered 1)) endpoint1, free (receives (numbered 1)) endpoint2)
+token-awaits answer.Nak c h free = h
+token-awaits answer.Stall c h free = h

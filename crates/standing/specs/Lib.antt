@@ -1,0 +1,2 @@
+-- What stands in every world that is reached.
+pub mod Standing
