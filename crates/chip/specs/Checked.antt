@@ -1,25 +1,23 @@
--- One event, one register read, one register write on any state whatever: done, or refused with the state as given.
+-- One event on any state whatever: done, or refused with the state as given. A register access is an event too.
 use Prim.Native.Nat.{ℕ}
 use mathlib.Core.Path.{_≡_}
-use mathlib.Core.Bool.{Bool, true, false, not}
-use mathlib.Core.List.{List, []}
+use mathlib.Core.Bool.{not}
+use mathlib.Core.List.{List}
 use lib.ListN.{length}
 use Rattle.choice.specs.Choice.{pick}
 use Rattle.refusal.specs.declared.Refusal.{Refusal}
 use Rattle.refusal.specs.declared.Refusal.the-variants.{NotWellFormed, OutOfRange}
 use Rattle.event.specs.declared.Event.{Event}
-use Rattle.event.specs.declared.Event.the-variants.{Read, Write}
 use Rattle.event.specs.Event.{inRange}
 use Rattle.state.specs.declared.Chip.{Chip}
 use Rattle.interrupt.specs.Interrupt.{line}
 use Rattle.answer.specs.declared.Out.{Out}
 use Rattle.step.specs.Step.{stepOf, stepBytes}
 use Rattle.formed.specs.Formed.{wellFormed}
-use Rattle.chip.specs.declared.Reply.{Reply}
 use Rattle.chip.specs.declared.Reply.the-variants.{Answered, Refused}
 use Rattle.chip.specs.declared.Stepped.{Stepped}
 
--- "5 state not well formed .. state as given"; the line is that of the state as given
+-- "5 state not well formed .. state as given"; 4, "state unchanged"; the line is that of the state as given
 abbrev pub refusing : Refusal → Chip → Stepped
 refusing r c = record { chip = c; reply = Refused r; line = line c }
 
