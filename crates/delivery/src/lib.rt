@@ -1,0 +1,1 @@
+// Demand 3: the theorems, each under its sentence. No code.

@@ -1,0 +1,2 @@
+-- Where a packet of endpoint 1 is.
+pub mod Stage
