@@ -73,7 +73,6 @@ pub record PutData (c : Control) (b : ℕ) (m : List ℕ) (r : Control) (m′ : 
 abbrev pub takeData : Control → List ℕ → TakenByte0
 takeData c m = record { control = withFifo (take0 (c .fifo) m .fifo) c; value = take0 (c .fifo) m .value; taken = take0 (c .fifo) m .taken }
 
--- "Writing another value clears TX_EN, LAST, RX_EN, all waits, held command bytes, held flushes and the SETUP mark, without TX_DONE; FIFO
--- bytes stay."
+-- "Writing another value clears TX_EN, .. RX_EN, .. and the SETUP mark, without TX_DONE; FIFO bytes stay."
 abbrev pub stopped : Control → Control
 stopped c = withMark false (withReceives false (withSends false c))

@@ -28,8 +28,7 @@ answerIn c =
     (pick (c .stall) answer.Stall
     (pick (c .txtoggle) answer.Data1 answer.Data0)))
 
--- "STALL set: answer STALL, TX_EN and ACK_STAT cleared, TX_DONE set."; "DEF clears when endpoint 0's data goes out. Then a handshake is
--- awaited."
+-- "STALL set: answer STALL, TX_EN and ACK_STAT cleared, TX_DONE set."; "DEF clears when endpoint 0's data goes out."
 abbrev pub afterIn : Sent0 → Control → Control
 afterIn answer.Silence c = c
 afterIn answer.Nak c = c

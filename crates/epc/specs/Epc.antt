@@ -1,6 +1,6 @@
 -- EPC1 to EPC6: "7 STALL, 5 ISO, 4 EP_EN, 3..0 bus endpoint".
 use Prim.Native.Nat.{ℕ, _+_, _*_, _%_}
-use mathlib.Core.Bool.{Bool, true, false, _&&_, not}
+use mathlib.Core.Bool.{Bool, false, _&&_, not}
 use lib.Dec.{eqb}
 use Rattle.event.specs.declared.BusEndpoint.{BusEndpoint}
 use Rattle.event.specs.Event.{busEndpoint}

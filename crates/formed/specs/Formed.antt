@@ -1,11 +1,9 @@
 -- When a whole state is well formed: 01's conditions, and one value for every idle field.
-use Prim.Native.Nat.{ℕ}
-use mathlib.Core.Bool.{Bool, true, false, not, _&&_, _||_}
+use mathlib.Core.Bool.{Bool, not, _&&_, _||_}
 use lib.Dec.{eqb, ltb}
 use Rattle.control.specs.State as control
 use Rattle.sender.specs.Sender as sender
 use Rattle.receiver.specs.Receiver as receiver
-use Rattle.window.specs.declared.FifoNumber.{FifoNumber}
 use Rattle.state.specs.declared.Endpoint.{Endpoint}
 use Rattle.state.specs.declared.Wait.{Wait}
 use Rattle.state.specs.declared.Wait.the-variants.{Nothing, Handshake, Data, Setup}

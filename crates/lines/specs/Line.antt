@@ -2,7 +2,7 @@
 -- 01: "A line is: event number from 0, answer, line 0 or 1."
 use Prim.Native.Nat.{ℕ}
 use mathlib.Core.Path.{_≡_}
-use mathlib.Core.Bool.{Bool, true, false}
+use mathlib.Core.Bool.{Bool}
 use mathlib.Core.List.{List, [], _∷_, _++_}
 use lib.ListN.{length}
 use Rattle.epc.specs.Bits.{bitOf}

@@ -12,7 +12,6 @@ use Rattle.window.specs.Window.{rxSize}
 use Rattle.ring.specs.Ring.{level}
 use Rattle.rxfifo.specs.declared.RxFifo.{RxFifo}
 use Rattle.rxfifo.specs.Receive.{resetRx, takeRx, fitsRx, fillRx, fillRxBytes}
-use Rattle.epc.specs.declared.Epc.{Epc}
 use Rattle.epc.specs.Bits.{bitOf, has, odd}
 use Rattle.epc.specs.Epc.{resetEpc}
 use Rattle.verdict.specs.declared.Judged.{Judged}
@@ -89,7 +88,7 @@ statusOf s =
 abbrev pub cleared : Receiver → Receiver
 cleared s = withFlags false false false false s
 
--- RXC: "2 IGN_SETUP, 0 RX_EN; .. the others 6..5 stored"; "FLUSH and RFF read 0"
+-- RXC: "2 IGN_SETUP, 0 RX_EN; .. the others 6..5 stored"; "FLUSH .. read 0"
 abbrev pub commandValue : Receiver → ℕ
 commandValue s = 32 * (s .middle % 4) + 4 * bitOf (s .ignore) + bitOf (s .enabled)
 

@@ -10,7 +10,6 @@ use Rattle.window.specs.Window.{txSize}
 use Rattle.ring.specs.Ring.{level, free}
 use Rattle.txfifo.specs.declared.TxFifo.{TxFifo}
 use Rattle.txfifo.specs.Transmit.{resetTx, putTx, putTxBytes, spendTx, refillTx, markTx}
-use Rattle.epc.specs.declared.Epc.{Epc}
 use Rattle.epc.specs.Bits.{bitOf, has, odd}
 use Rattle.epc.specs.Epc.{resetEpc}
 use Rattle.sender.specs.declared.Sender.{Sender}

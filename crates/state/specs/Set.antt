@@ -1,6 +1,6 @@
 -- The chip with one part changed: each setter once. A part that is not named stays.
 use Prim.Native.Nat.{ℕ, _%_}
-use mathlib.Core.Bool.{Bool, true, false}
+use mathlib.Core.Bool.{Bool, true}
 use lib.ListN.{set}
 use Rattle.window.specs.declared.FifoNumber.{FifoNumber}
 use Rattle.window.specs.Window.{indexOf}

@@ -1,6 +1,6 @@
 -- The chip's state after reset, its endpoints, and which FIFO is whose.
 use Prim.Native.Nat.{ℕ, _+_, _/_, _%_}
-use mathlib.Core.Bool.{Bool, true, false}
+use mathlib.Core.Bool.{false}
 use mathlib.Core.List.{List}
 use lib.ListN.{getD, replicate}
 use Rattle.window.specs.declared.FifoNumber.{FifoNumber}

@@ -1,7 +1,7 @@
 -- Who takes a token.
 -- 01: "A token matches if AD_EN is set and the address agrees; endpoint 0 also at address 0 with DEF, AD_EN or not (H)."
 use Prim.Native.Nat.{ℕ, _+_, _*_, _%_}
-use mathlib.Core.Bool.{Bool, true, false, _&&_, _||_}
+use mathlib.Core.Bool.{Bool, _&&_, _||_}
 use lib.Dec.{eqb}
 use lib.Count.{trailingZeros}
 use Rattle.choice.specs.Choice.{pick}

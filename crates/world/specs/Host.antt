@@ -1,9 +1,8 @@
 -- The host, the bus between it and the chip, and what may happen there. "USB 1.1's DATA0/DATA1 rule" is the host's.
 use Prim.Native.Nat.{ℕ}
-use mathlib.Core.Bool.{Bool, true, false, not, _&&_, _||_}
-use mathlib.Core.List.{List, []}
-use lib.ListN.{length}
-use lib.Dec.{eqb, leb}
+use mathlib.Core.Bool.{Bool, true, false, not, _&&_}
+use mathlib.Core.List.{List}
+use lib.Dec.{eqb}
 use Rattle.event.specs.declared.BusEndpoint.{BusEndpoint}
 use Rattle.event.specs.declared.Event.{Event}
 use Rattle.event.specs.declared.Event.the-variants as event

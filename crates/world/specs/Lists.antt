@@ -1,11 +1,9 @@
 -- Demand 3's words over a world: who has what, and how a failed transaction is recovered from.
-use Prim.Native.Nat.{ℕ}
 use mathlib.Core.Path.{_≡_}
 use mathlib.Core.Logic.{_⊎_}
-use mathlib.Core.Bool.{Bool, true, false, not, _&&_}
+use mathlib.Core.Bool.{true, not, _&&_}
 use mathlib.Core.List.{List, [], _∷_, _++_}
 use Rattle.choice.specs.Choice.{pick}
-use Rattle.window.specs.declared.FifoNumber.{FifoNumber}
 use Rattle.window.specs.declared.Kind.the-variants as kind
 use Rattle.window.specs.Window.{startOf, sizeOf}
 use Rattle.ring.specs.Ring.{contents}
