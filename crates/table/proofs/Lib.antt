@@ -2,5 +2,5 @@
 pub mod Text
 pub mod Worked
 pub mod Counts
-pub mod Runs
+pub mod Table
 pub mod Unreached
