@@ -11,6 +11,7 @@ use Rattle.ring.specs.Ring.{storeAll, bytesFrom}
 use Rattle.fifo0.specs.Control.{rcount, put0, take0, fill0}
 use Rattle.txfifo.specs.Transmit.{putTx, refillTx}
 use Rattle.rxfifo.specs.Receive.{takeRx, fillRx}
+use Rattle.event.specs.declared.Event.the-variants.{In, Out, Data, Ack}
 use Rattle.event.specs.Event.{ranges, countOf, kindOf, valuesOf, within, inRange}
 use Rattle.epc.specs.Epc.{takes}
 use Rattle.verdict.specs.Verdict.{heard}
@@ -41,7 +42,7 @@ use Rattle.frame.specs.Driver.{reserved}
 use Rattle.driver.specs.Registers.{written, writtenAll, value, seen}
 use Rattle.driver.specs.Driver.{setUp, accepted, admission, offeredBy, offered, answered, sendServed}
 use Rattle.receiving.specs.Receive.{taken, rounds, flushing, accepting, judged, receiveServed}
-use Rattle.world.specs.Host.{isOver, isAcks, isDatas, isOthers, elsewhere, otherToken, otherRest, isData, Packet, sound, damaged, lost, offer, sendService, receiveService, take, inToken, ack, outToken, outData, timeout}
+use Rattle.world.specs.Host.{isOver, isAcks, isDatas, isOthers, elsewhere, otherToken, otherRest, Packet, sound, damaged, offer, sendService, receiveService, take, inToken, ack, outToken, outData, other, timeout, late}
 use Rattle.world.specs.World.{startWorld, held, isDone, isDelivered, isTaken, called, actOffer, actSend, actReceive, answerTo, happens, hostly, goes, sees, hostIn, gotIn, actIn, actAck, isAck, actTake, actOut, hostOut, sent, actData, afterToken, actOther, act, acts, Lists}
 use Rattle.world.specs.Lists.{waiting, has, hostHeld, recoverSending, recoverReceiving}
 
@@ -58,6 +59,17 @@ pub record Meets : Type 0 where
   -- back) could not answer so
   pub data-lost :
       run (offer A ∷ inToken true false ∷ timeout ∷ sendService ∷ inToken true true ∷ ack true ∷ sendService ∷ []) .lists
+      ≡ lists (A ∷ []) (A ∷ []) (A ∷ []) [] []
+  -- a timeout comes before the host's ACK, which is late: the packet is sent again, and the host drops the repeat
+  pub ACK-late :
+      run (offer A ∷ inToken true true ∷ late ∷ sendService ∷ ack true ∷ inToken true true ∷ ack true ∷ sendService ∷ []) .lists
+      ≡ lists (A ∷ []) (A ∷ []) (A ∷ []) [] []
+  -- transactions of others pass by, with no timeout between: an OUT with its data, an IN with the host's ACK, and data whose token was lost
+  pub others-pass :
+      run
+      (offer A ∷ other (Out 9 (record { 0 = 2 })) [] ∷ other (Data 0 1) B ∷ other (In 9 (record { 0 = 1 })) [] ∷ other Ack [] ∷ other (Data 1 1) B
+      ∷ inToken true true ∷ ack true ∷ sendService ∷ [])
+      .lists
       ≡ lists (A ∷ []) (A ∷ []) (A ∷ []) [] []
   -- the IN token is lost: nothing is to be sent again
   pub IN-lost :
@@ -91,11 +103,13 @@ pub record Meets : Type 0 where
       ≡ lists (A ∷ B ∷ []) (A ∷ B ∷ []) (A ∷ B ∷ []) [] []
 
 pub meets : Meets
-unfolding trailingZeros pick indexOf storeAll bytesFrom rcount put0 take0 fill0 putTx refillTx takeRx fillRx ranges countOf kindOf valuesOf within inRange takes heard near moved marked command sender.answerIn sender.sent sender.wellFormed flushed receiver.judged received receivedBytes receiver.wellFormed unmarkedEmpty zero.wellFormed flushedBy txCommand rxBits disabled controlbus.answerIn handshake judgeOut stored refused judgeSetup afterSetup maev line stopSender stopReceiver stopZero nfsrWrite maskWrite maskOf controlRead senderRead receiverRead readOf controlCommand receiveCommand controlWrite controlBytes senderCommand senderWrite senderBytes receiverWrite writeOf bytesOf own zeroTakes senderTakes receiverTakes inMask outMask winner packetOf idled doneFlush doneByte senderByte endedZero endedSender endedAt droppedSetup markedOut overrun dataZero dataZeroBytes dataReceiver dataReceiverBytes dataSetup dataSetupBytes dataAt dataAtBytes awaiting markedIn inZero inSender inAt outAt setupToken quiet readStep writeStep inStep outStep setupStep dataStep dataStepBytes endStep stepOf stepBytes packetBytes sends receives unheld flushBeside heldBeside pendingFor sendersWell receiversWell registersWell wellFormed isAccess reserved written writtenAll value seen setUp accepted admission offeredBy offered answered sendServed taken rounds flushing accepting judged receiveServed isOver isAcks isDatas isOthers elsewhere otherToken otherRest isData startWorld held isDone isDelivered isTaken called actOffer actSend actReceive answerTo happens hostly goes sees hostIn gotIn actIn actAck isAck actTake actOut hostOut sent actData afterToken actOther act acts waiting has hostHeld recoverSending recoverReceiving
+unfolding trailingZeros pick indexOf storeAll bytesFrom rcount put0 take0 fill0 putTx refillTx takeRx fillRx ranges countOf kindOf valuesOf within inRange takes heard near moved marked command sender.answerIn sender.sent sender.wellFormed flushed receiver.judged received receivedBytes receiver.wellFormed unmarkedEmpty zero.wellFormed flushedBy txCommand rxBits disabled controlbus.answerIn handshake judgeOut stored refused judgeSetup afterSetup maev line stopSender stopReceiver stopZero nfsrWrite maskWrite maskOf controlRead senderRead receiverRead readOf controlCommand receiveCommand controlWrite controlBytes senderCommand senderWrite senderBytes receiverWrite writeOf bytesOf own zeroTakes senderTakes receiverTakes inMask outMask winner packetOf idled doneFlush doneByte senderByte endedZero endedSender endedAt droppedSetup markedOut overrun dataZero dataZeroBytes dataReceiver dataReceiverBytes dataSetup dataSetupBytes dataAt dataAtBytes awaiting markedIn inZero inSender inAt outAt setupToken quiet readStep writeStep inStep outStep setupStep dataStep dataStepBytes endStep stepOf stepBytes packetBytes sends receives unheld flushBeside heldBeside pendingFor sendersWell receiversWell registersWell wellFormed isAccess reserved written writtenAll value seen setUp accepted admission offeredBy offered answered sendServed taken rounds flushing accepting judged receiveServed isOver isAcks isDatas isOthers elsewhere otherToken otherRest startWorld held isDone isDelivered isTaken called actOffer actSend actReceive answerTo happens hostly goes sees hostIn gotIn actIn actAck isAck actTake actOut hostOut sent actData afterToken actOther act acts waiting has hostHeld recoverSending recoverReceiving
 meets =
     record {
       ACK-lost = refl;
       data-lost = refl;
+      ACK-late = refl;
+      others-pass = refl;
       IN-lost = refl;
       OUT-damaged = refl;
       OUT-repeated = refl;

@@ -39,7 +39,7 @@ use Rattle.frame.specs.Driver.{reserved}
 use Rattle.driver.specs.Registers.{written, writtenAll, value, seen}
 use Rattle.driver.specs.Driver.{setUp, accepted, admission, offeredBy, offered, answered, sendServed}
 use Rattle.receiving.specs.Receive.{taken, rounds, flushing, accepting, judged, receiveServed}
-use Rattle.world.specs.Host.{over, isOver, isAcks, isDatas, isOthers, elsewhere, otherToken, otherRest, isData}
+use Rattle.world.specs.Host.{over, isOver, isAcks, isDatas, isOthers, elsewhere, otherToken, otherRest}
 use Rattle.world.specs.World.{startWorld, held, isDone, isDelivered, isTaken, called, actOffer, actSend, actReceive, answerTo, happens, hostly, goes, sees, hostIn, gotIn, actIn, actAck, isAck, actTake, actOut, hostOut, sent, actData, afterToken, actOther, act, acts}
 use Rattle.world.specs.Lists.{waiting, has, hostHeld, recoverSending, recoverReceiving, Sent, Received, SentAgain, ReceivedAgain}
 use Rattle.needed.proofs.Sides.{A, B, sides, samePacket, samePackets, sending, receiving, not-sent, not-received, not-sent-again, not-received-again}
@@ -95,7 +95,7 @@ pub record Needed : Type 0 where
   pub over-not-set-up : not-set-up .host .at ≡ over
 
 pub needed-runs : Needed
-unfolding trailingZeros pick indexOf storeAll bytesFrom rcount put0 take0 fill0 putTx refillTx takeRx fillRx ranges countOf kindOf valuesOf within inRange takes heard near moved marked command sender.answerIn sender.sent sender.wellFormed flushed receiver.judged received receivedBytes receiver.wellFormed unmarkedEmpty zero.wellFormed flushedBy txCommand rxBits disabled controlbus.answerIn handshake judgeOut stored refused judgeSetup afterSetup maev line stopSender stopReceiver stopZero nfsrWrite maskWrite maskOf controlRead senderRead receiverRead readOf controlCommand receiveCommand controlWrite controlBytes senderCommand senderWrite senderBytes receiverWrite writeOf bytesOf own zeroTakes senderTakes receiverTakes inMask outMask winner packetOf idled doneFlush doneByte senderByte endedZero endedSender endedAt droppedSetup markedOut overrun dataZero dataZeroBytes dataReceiver dataReceiverBytes dataSetup dataSetupBytes dataAt dataAtBytes awaiting markedIn inZero inSender inAt outAt setupToken quiet readStep writeStep inStep outStep setupStep dataStep dataStepBytes endStep stepOf stepBytes packetBytes sends receives unheld flushBeside heldBeside pendingFor sendersWell receiversWell registersWell wellFormed isAccess reserved written writtenAll value seen setUp accepted admission offeredBy offered answered sendServed taken rounds flushing accepting judged receiveServed isOver isAcks isDatas isOthers elsewhere otherToken otherRest isData startWorld held isDone isDelivered isTaken called actOffer actSend actReceive answerTo happens hostly goes sees hostIn gotIn actIn actAck isAck actTake actOut hostOut sent actData afterToken actOther act acts waiting has hostHeld recoverSending recoverReceiving
+unfolding trailingZeros pick indexOf storeAll bytesFrom rcount put0 take0 fill0 putTx refillTx takeRx fillRx ranges countOf kindOf valuesOf within inRange takes heard near moved marked command sender.answerIn sender.sent sender.wellFormed flushed receiver.judged received receivedBytes receiver.wellFormed unmarkedEmpty zero.wellFormed flushedBy txCommand rxBits disabled controlbus.answerIn handshake judgeOut stored refused judgeSetup afterSetup maev line stopSender stopReceiver stopZero nfsrWrite maskWrite maskOf controlRead senderRead receiverRead readOf controlCommand receiveCommand controlWrite controlBytes senderCommand senderWrite senderBytes receiverWrite writeOf bytesOf own zeroTakes senderTakes receiverTakes inMask outMask winner packetOf idled doneFlush doneByte senderByte endedZero endedSender endedAt droppedSetup markedOut overrun dataZero dataZeroBytes dataReceiver dataReceiverBytes dataSetup dataSetupBytes dataAt dataAtBytes awaiting markedIn inZero inSender inAt outAt setupToken quiet readStep writeStep inStep outStep setupStep dataStep dataStepBytes endStep stepOf stepBytes packetBytes sends receives unheld flushBeside heldBeside pendingFor sendersWell receiversWell registersWell wellFormed isAccess reserved written writtenAll value seen setUp accepted admission offeredBy offered answered sendServed taken rounds flushing accepting judged receiveServed isOver isAcks isDatas isOthers elsewhere otherToken otherRest startWorld held isDone isDelivered isTaken called actOffer actSend actReceive answerTo happens hostly goes sees hostIn gotIn actIn actAck isAck actTake actOut hostOut sent actData afterToken actOther act acts waiting has hostHeld recoverSending recoverReceiving
 needed-runs =
     record {
       on-empty-OUT = refl;

@@ -29,7 +29,7 @@ use Rattle.driver.proofs.Range.{in-range}
 use Rattle.receiving.specs.Receive.{receiveServed}
 use Rattle.driving.proofs.Kept.{Sound}
 use Rattle.driving.proofs.Packet.{held}
-use Rattle.world.specs.Host.{Packet, Open, over, acks, fails, datas, others, Fate, sound, damaged, lost, Action, offer, sendService, receiveService, access, take, inToken, ack, outToken, outData, other, timeout, isOver, isDatas, isOthers, otherToken, otherRest, isData}
+use Rattle.world.specs.Host.{Packet, Open, over, acks, fails, datas, others, Fate, sound, damaged, lost, Action, offer, sendService, receiveService, access, take, inToken, ack, outToken, outData, other, timeout, late, isOver, isDatas, isOthers, otherToken, otherRest}
 use Rattle.world.specs.World.{World, called, actOffer, actSend, actReceive, answerTo, happens, hostly, actIn, actAck, isAck, actTake, actOut, sent, actData, afterToken, actOther, act}
 use Rattle.standing.specs.Standing.{endpoint, Awaits, Standing}
 use Rattle.receivepipe.proofs.Storing.{Shut, Shape}
@@ -65,30 +65,14 @@ data-free (Handshake x) e = refl
 data-free (Data x) e = e
 data-free Setup e = e
 
-data-rest : (t : Event) → isData t ≡ true → otherRest t ≡ true
-unfolding isData otherRest
-data-rest (event.Read r) e = e
-data-rest (event.Write r v) e = e
-data-rest (event.In a x) e = e
-data-rest (event.Out a x) e = e
-data-rest (event.Setup a x) e = e
-data-rest (event.Data p s) e = refl
-data-rest event.Ack e = refl
-data-rest event.Timeout e = e
-
-or-first : (a : Bool) → (a || false) ≡ true → a ≡ true
-or-first true e = refl
-or-first false e = e
-
 -- data or an ACK of another transaction
-rest-free : (o : Open) (c : Chip) (t : Event) → (isOthers o && otherRest t || isOver o && isData t) ≡ true → Awaits o c
-    → (isOwner (dataOwner (c .pending .wait)) (receives (numbered 1)) ≡ false) × (otherRest t ≡ true)
+rest-free : (o : Open) (c : Chip) → (isOthers o || isOver o) ≡ true → Awaits o c → isOwner (dataOwner (c .pending .wait)) (receives (numbered 1)) ≡ false
 unfolding isOthers isOver Awaits awaited
-rest-free over c t e a = (rw a refl, data-rest t e)
-rest-free acks c t e a = absurd {0} (false≢true e)
-rest-free fails c t e a = absurd {0} (false≢true e)
-rest-free datas c t e a = absurd {0} (false≢true e)
-rest-free others c t e a = (data-free (c .pending .wait) (a .1), or-first (otherRest t) e)
+rest-free over c e a = rw a refl
+rest-free acks c e a = absurd {0} (false≢true e)
+rest-free fails c e a = absurd {0} (false≢true e)
+rest-free datas c e a = absurd {0} (false≢true e)
+rest-free others c e a = data-free (c .pending .wait) (a .1)
 
 -- ---- bus events of other transactions
 
@@ -192,17 +176,22 @@ module _ (w : World) (s : Standing w) (f : Flow w) where
   unfolding act happens
   timeout-flow = host-flows (goes-keeps over (w .host)) (still (timeout-alike [] (w .model) on))
 
+  late-flow : Flow (act late w)
+  unfolding act happens
+  late-flow = still (timeout-alike [] (w .model) on)
+
   other-flow : (t : Event) (b : Packet) → Flow (actOther t b w)
   unfolding actOther happens
   other-flow t b =
       by-test Flow (not (inRange t (length b))) (λ _. f) (λ _.
       by-test Flow (isOver (w .host .at) && otherToken (w .pipes .a) (w .pipes .e) (w .pipes .f) t) (λ e.
       let y : _ = and-eq-true-iff (isOver (w .host .at)) (otherToken (w .pipes .a) (w .pipes .e) (w .pipes .f) t) .0 e in
-      host-flows (goes-keeps (afterToken (answerTo t b (w .model))) (w .host))
+      host-flows (goes-keeps (afterToken (next t b (w .model) .chip .pending .wait)) (w .host))
       (still (token-alike (w .model) on b (w .pipes .a) (w .pipes .e) (w .pipes .f) t (y .1)))) (λ _.
-      by-test Flow (isOthers (w .host .at) && otherRest t || isOver (w .host .at) && isData t) (λ e.
-      let y : _ = rest-free (w .host .at) (w .model .chip) t e (s .awaits) in
-      host-flows (goes-keeps over (w .host)) (still (rest-alike (w .model) on b t (y .0) (y .1)))) (λ _. f)))
+      by-test Flow ((isOthers (w .host .at) || isOver (w .host .at)) && otherRest t) (λ e.
+      let y : _ = and-eq-true-iff (isOthers (w .host .at) || isOver (w .host .at)) (otherRest t) .0 e in
+      let free : _ = rest-free (w .host .at) (w .model .chip) (y .0) (s .awaits) in
+      host-flows (goes-keeps over (w .host)) (still (rest-alike (w .model) on b t free (y .1)))) (λ _. f)))
 
   -- ---- data of the pipe
 
@@ -274,3 +263,4 @@ act-flows (outToken reaches) w s f =
 act-flows (outData x seen) w s f = by-test Flow (isDatas (w .host .at)) (λ e. data-flow w s f x seen e) (λ _. f)
 act-flows (other t b) w s f = other-flow w s f t b
 act-flows timeout w s f = timeout-flow w s f
+act-flows late w s f = late-flow w s f

@@ -9,7 +9,6 @@ use Rattle.event.specs.declared.Event.the-variants as event
 use Rattle.epc.specs.Bits.{bitOf}
 use Rattle.state.specs.declared.Wait.the-variants.{Data}
 use Rattle.driver.specs.Driver.{startable}
-use Rattle.driving.proofs.Packet.{held}
 use Rattle.world.specs.Host.{over, sound, Action, receiveService, outToken, outData, isOver, isDatas}
 use Rattle.world.specs.World.{Pipes, World, startWorld, ifSo, called, actReceive, answerTo, happens, goes, isAck, actOut, hostOut, sent, actData, act, acts}
 use Rattle.world.specs.Lists.{ActionBytes, FateBytes, AllBytes, waiting, has, hostHeld, recoverReceiving, ReceivedAgain}
@@ -152,6 +151,16 @@ recovers w b e =
     let one : World = act receiveService w in
     ap (λ (h : Bool). pick h (act receiveService (act (outData sound true) (act (outToken true) one))) one) e
 
+-- nothing waits then: what the driver has it has taken
+again-taken : (w : World) → Standing w → Flow w → w .host .at ≡ over → has (recoverReceiving w) ≡ recoverReceiving w .lists .taken
+again-taken w s f at = go (w .host .holds) refl
+  where
+    go : (b : Bool) → w .host .holds ≡ b → has (recoverReceiving w) ≡ recoverReceiving w .lists .taken
+    go true e = unfold pick in
+        (rw (recovers w true e)
+        (emptied (act (outData sound true) (act (outToken true) (act receiveService w))) (stands-three w s f at e) (flow-three w s f at e)))
+    go false e = unfold pick in (rw (recovers w false e) (emptied w s f))
+
 again : (w : World) → Standing w → Flow w → w .host .at ≡ over → ReceivedAgain w
 again w s f at = go (w .host .holds) refl
   where
@@ -167,32 +176,17 @@ again w s f at = go (w .host .holds) refl
         (record {
           known = ap (λ (x : World). x .lists .known) (recovers w true e) ∙ both w s f at e .0 ∙ as-held true e;
           taken = ap (λ (x : World). x .lists .taken) (recovers w true e) ∙ both w s f at e .1 ∙ as-held true e;
+          all = again-taken w s f at ∙ ap (λ (x : World). x .lists .taken) (recovers w true e) ∙ both w s f at e .1 ∙ as-held true e;
         })
     go false e = unfold pick in
         (record {
           known = ap (λ (x : World). x .lists .known) (recovers w false e) ∙ same-known ∙ sym (append-nil (w .lists .known)) ∙ as-held false e;
           taken = ap (λ (x : World). x .lists .taken) (recovers w false e) ∙ settled w s f e ∙ sym (append-nil (w .lists .known)) ∙ as-held false e;
+          all = again-taken w s f at ∙ ap (λ (x : World). x .lists .taken) (recovers w false e) ∙ settled w s f e ∙ sym (append-nil (w .lists .known)) ∙ as-held false e;
         })
-
--- nothing waits then: what the driver has it has taken
-again-taken : (w : World) → Standing w → Flow w → w .host .at ≡ over → has (recoverReceiving w) ≡ recoverReceiving w .lists .taken
-again-taken w s f at = go (w .host .holds) refl
-  where
-    go : (b : Bool) → w .host .holds ≡ b → has (recoverReceiving w) ≡ recoverReceiving w .lists .taken
-    go true e = unfold pick in
-        (rw (recovers w true e)
-        (emptied (act (outData sound true) (act (outToken true) (act receiveService w))) (stands-three w s f at e) (flow-three w s f at e)))
-    go false e = unfold pick in (rw (recovers w false e) (emptied w s f))
 
 -- From either case a service, then, if a packet is still held, one transaction of it in which nothing is lost or damaged and a service make both
 -- lists equal, that packet at the end of each.
 pub received-again : (p : Pipes) (xs : List Action) → startable (p .a) (p .e) (p .f) ≡ true → AllBytes xs
     → acts xs (startWorld p) .host .at ≡ over → ReceivedAgain (acts xs (startWorld p))
 received-again p xs h b = again (acts xs (startWorld p)) (reached-stands p xs h b) (reached-flow p xs h b)
-
--- The same of all that the driver has: no packet waits in RXFIFO1 then.
-pub received-again-all : (p : Pipes) (xs : List Action) → startable (p .a) (p .e) (p .f) ≡ true → AllBytes xs
-    → acts xs (startWorld p) .host .at ≡ over
-    → has (recoverReceiving (acts xs (startWorld p))) ≡ acts xs (startWorld p) .lists .known ++ hostHeld (acts xs (startWorld p))
-received-again-all p xs h b at =
-    again-taken (acts xs (startWorld p)) (reached-stands p xs h b) (reached-flow p xs h b) at ∙ received-again p xs h b at .taken

@@ -10,8 +10,9 @@ use Rattle.choice.proofs.ByTest.{by-test}
 use Rattle.event.specs.declared.Event.{Event}
 use Rattle.event.specs.declared.Event.the-variants as event
 use Rattle.event.specs.Event.{inRange}
-use Rattle.answer.specs.declared.Answer.{Answer}
-use Rattle.answer.specs.declared.Answer.the-variants as answer
+use Rattle.state.specs.declared.Wait.{Wait}
+use Rattle.state.specs.declared.Wait.the-variants as wait
+use Rattle.typed.specs.Next.{next}
 use Rattle.frame.specs.Place.{awaited}
 use Rattle.frame.specs.Owner.{owner, isFor}
 use Rattle.frame.specs.Settings.{isAccess, isToken}
@@ -20,15 +21,15 @@ use Rattle.standing.specs.Standing.{Standing}
 use Rattle.standing.proofs.Reaches.{pipes-range, out-not-sends, data-not-sends, other-not-for}
 use Rattle.standing.proofs.Events.{token-no-access, other-is-token, rest-ends}
 use Rattle.standing.proofs.Turns.{over-none}
-use Rattle.world.specs.Host.{Packet, over, fails, datas, Host, Fate, sound, damaged, lost, Action, offer, sendService, receiveService, access, take, inToken, ack, outToken, outData, other, timeout}
-use Rattle.world.specs.Host.{isOver, isAcks, isDatas, isOthers, otherToken, otherRest, isData}
+use Rattle.world.specs.Host.{Packet, over, fails, datas, Host, Fate, sound, damaged, lost, Action, offer, sendService, receiveService, access, take, inToken, ack, outToken, outData, other, timeout, late}
+use Rattle.world.specs.Host.{isOver, isAcks, isDatas, isOthers, otherToken, otherRest}
 use Rattle.world.specs.World.{World, answerTo, happens, goes, actIn, actAck, isAck, actOut, hostOut, sent, actData, afterToken, actOther, act}
 use Rattle.sendpipe.specs.Stage.{WaitingAt, AckedAt, FailedAt, Stage, idle, armed, waiting, acked, failed}
 use Rattle.sendpipe.proofs.Ends.{ack-acked, timeout-failed}
 use Rattle.sendpipe.proofs.Token.{one}
 use Rattle.sendpipe.proofs.Driver.{stage-offer, stage-send, stage-receive}
-use Rattle.sendpipe.proofs.Turns.{none-awaited, handshake-awaited, waits-one, in-off, in-armed}
-use Rattle.sendpipe.proofs.Events.{never, goes-on, stage-take, stage-happens, bus-same, goes-by, stage-access, datas-free, others-free, acks-wait}
+use Rattle.sendpipe.proofs.Turns.{none-awaited, waits-one, in-off, in-armed}
+use Rattle.sendpipe.proofs.Events.{never, goes-on, stage-take, stage-happens, bus-same, goes-by, stage-access, datas-free, others-free}
 
 module _ (w : World) (s : Standing w) where
   -- no transaction is open: nothing is awaited
@@ -53,49 +54,55 @@ module _ (w : World) (s : Standing w) where
   ack-waiting p now x =
       record {
         chip =
-            ack-acked p (w .model) (s .set-up .operates) (s .typed .chip .senders .sized) (acks-wait (w .model .chip) (w .host .at) (s .awaits) now) (x .chip);
+            ack-acked p (w .model) (s .set-up .operates) (s .typed .chip .senders .sized)
+            (waits-one (w .model .chip) (w .host .at) (s .awaits) (x .chip .waits)) (x .chip);
         holding = record { held = x .holding .held; offers = x .holding .offers };
         told = x .seen now;
       }
 
-  stage-ack : (reaches : Bool) → isAcks (w .host .at) ≡ true → Stage w → Stage (actAck reaches w)
-  unfolding actAck isAcks
-  stage-ack false now x = goes-on fails w refl x
-  stage-ack true now x = go x
-    where
-      yes : awaited one (w .model .chip) ≡ true
-      yes = handshake-awaited (w .model .chip) (acks-wait (w .model .chip) (w .host .at) (s .awaits) now)
+  -- where nothing is awaited of endpoint 1 it comes too late, and changes nothing
+  ack-late : awaited one (w .model .chip) ≡ false → Stage w → Stage (actAck true w)
+  unfolding actAck isAccess owner isAcks
+  ack-late free x = goes-by event.Ack [] over w refl refl free refl x
 
-      go : Stage w → Stage (actAck true w)
-      go (idle y) = absurd {0} (false≢true (sym (y .chip .free) ∙ yes))
-      go (armed p y) = absurd {0} (false≢true (sym (y .chip .free) ∙ yes))
-      go (waiting p y) = acked p (ack-waiting p now y)
-      go (acked p y) = absurd {0} (false≢true (sym (y .chip .free) ∙ yes))
-      go (failed p y) = absurd {0} (false≢true (sym (y .chip .free) ∙ yes))
+  stage-ack : (reaches : Bool) → isAcks (w .host .at) ≡ true → Stage w → Stage (actAck reaches w)
+  stage-ack false now x = unfold actAck isAcks in (goes-on fails w refl x)
+  stage-ack true now (idle x) = ack-late (x .chip .free) (idle x)
+  stage-ack true now (armed p x) = ack-late (x .chip .free) (armed p x)
+  stage-ack true now (waiting p x) = acked p (ack-waiting p now x)
+  stage-ack true now (acked p x) = ack-late (x .chip .free) (acked p x)
+  stage-ack true now (failed p x) = ack-late (x .chip .free) (failed p x)
 
   -- ---- a timeout
 
-  timeout-free : awaited one (w .model .chip) ≡ false → Stage w → Stage (happens event.Timeout [] (goes over (w .host)) (w .lists) w)
-  unfolding isAccess owner isAcks
-  timeout-free free x = goes-by event.Timeout [] over w refl refl free refl x
+  -- the host is to acknowledge then only if it was before
+  module _ (h : Host) (e : h .expects ≡ w .host .expects) (f : isAcks (h .at) ≡ true → isAcks (w .host .at) ≡ true) where
+    timeout-free : awaited one (w .model .chip) ≡ false → Stage w → Stage (happens event.Timeout [] h (w .lists) w)
+    unfolding isAccess owner
+    timeout-free free x =
+        stage-happens event.Timeout [] h (w .lists) w (bus-same event.Timeout [] (w .model) refl refl free) e f refl refl refl x
 
-  timeout-waiting : (p : Packet) → WaitingAt p w → FailedAt p (happens event.Timeout [] (goes over (w .host)) (w .lists) w)
-  unfolding happens goes
-  timeout-waiting p x =
-      record {
-        chip =
-            timeout-failed p (w .model) (s .set-up .operates) (s .typed .chip .senders .sized)
-            (waits-one (w .model .chip) (w .host .at) (s .awaits) (x .chip .waits)) (x .chip);
-        holding = record { held = x .holding .held; offers = x .holding .offers };
-        told = x .told;
-      }
+    timeout-waiting : (p : Packet) → WaitingAt p w → FailedAt p (happens event.Timeout [] h (w .lists) w)
+    unfolding happens
+    timeout-waiting p x =
+        record {
+          chip =
+              timeout-failed p (w .model) (s .set-up .operates) (s .typed .chip .senders .sized)
+              (waits-one (w .model .chip) (w .host .at) (s .awaits) (x .chip .waits)) (x .chip);
+          holding = record { held = x .holding .held; offers = x .holding .offers };
+          told = rw e (x .told);
+        }
 
-  stage-timeout : Stage w → Stage (happens event.Timeout [] (goes over (w .host)) (w .lists) w)
-  stage-timeout (idle x) = timeout-free (x .chip .free) (idle x)
-  stage-timeout (armed p x) = timeout-free (x .chip .free) (armed p x)
-  stage-timeout (waiting p x) = failed p (timeout-waiting p x)
-  stage-timeout (acked p x) = timeout-free (x .chip .free) (acked p x)
-  stage-timeout (failed p x) = timeout-free (x .chip .free) (failed p x)
+    stage-timeout : Stage w → Stage (happens event.Timeout [] h (w .lists) w)
+    stage-timeout (idle x) = timeout-free (x .chip .free) (idle x)
+    stage-timeout (armed p x) = timeout-free (x .chip .free) (armed p x)
+    stage-timeout (waiting p x) = failed p (timeout-waiting p x)
+    stage-timeout (acked p x) = timeout-free (x .chip .free) (acked p x)
+    stage-timeout (failed p x) = timeout-free (x .chip .free) (failed p x)
+
+  stage-over : Stage w → Stage (happens event.Timeout [] (goes over (w .host)) (w .lists) w)
+  unfolding goes isAcks
+  stage-over x = stage-timeout (goes over (w .host)) refl (λ h. absurd {0} (false≢true h)) x
 
   -- ---- OUT
 
@@ -138,16 +145,12 @@ module _ (w : World) (s : Standing w) where
     other-not-for (w .pipes) (w .model .chip) (pipes-range (w .pipes) (s .startable-as)) (s .set-up) t e one endpoint1,
   )
 
-  after-token : (a : Answer) → isAcks (afterToken a) ≡ false
+  after-token : (v : Wait) → isAcks (afterToken v) ≡ false
   unfolding afterToken isAcks
-  after-token answer.Silence = refl
-  after-token (answer.Value v) = refl
-  after-token (answer.Data0 p) = refl
-  after-token (answer.Data1 p) = refl
-  after-token answer.Broken = refl
-  after-token answer.Ack = refl
-  after-token answer.Nak = refl
-  after-token answer.Stall = refl
+  after-token wait.Nothing = refl
+  after-token (wait.Handshake e) = refl
+  after-token (wait.Data e) = refl
+  after-token wait.Setup = refl
 
   -- data, or a host's ACK
   ends-not-sends : (t : Event) → isAccess t ≡ false → isToken t ≡ false → isFor t (w .model .chip) one ≡ false
@@ -162,11 +165,11 @@ module _ (w : World) (s : Standing w) where
   ends-not-sends event.Timeout e f = refl
 
   -- another transaction is open, or none
-  rest-free : (a b c d : Bool) → (a ≡ true → awaited one (w .model .chip) ≡ false) → (c ≡ true → awaited one (w .model .chip) ≡ false)
-      → (a && b || c && d) ≡ true → awaited one (w .model .chip) ≡ false
-  rest-free true b c d f g e = f refl
-  rest-free false b true d f g e = g refl
-  rest-free false b false d f g e = never (sym e)
+  rest-free : (a b : Bool) → (a ≡ true → awaited one (w .model .chip) ≡ false) → (b ≡ true → awaited one (w .model .chip) ≡ false)
+      → (a || b) ≡ true → awaited one (w .model .chip) ≡ false
+  rest-free true b f g e = f refl
+  rest-free false true f g e = g refl
+  rest-free false false f g e = never (sym e)
 
   stage-other : (t : Event) (b : Packet) → Stage w → Stage (actOther t b w)
   unfolding actOther isAcks
@@ -175,12 +178,13 @@ module _ (w : World) (s : Standing w) where
       by-test Stage (isOver (w .host .at) && otherToken (w .pipes .a) (w .pipes .e) (w .pipes .f) t) (λ e.
       let q : _ = and-eq-true-iff (isOver (w .host .at)) (otherToken (w .pipes .a) (w .pipes .e) (w .pipes .f) t) .0 e in
       let r : _ = token-bus t (q .1) in
-      goes-by t b (afterToken (answerTo t b (w .model))) w (r .0) (r .1) (over-free (q .0)) (after-token (answerTo t b (w .model))) x) (λ _.
-      by-test Stage (isOthers (w .host .at) && otherRest t || isOver (w .host .at) && isData t) (λ e.
+      let v : Wait = next t b (w .model) .chip .pending .wait in
+      goes-by t b (afterToken v) w (r .0) (r .1) (over-free (q .0)) (after-token v) x) (λ _.
+      by-test Stage ((isOthers (w .host .at) || isOver (w .host .at)) && otherRest t) (λ e.
+      let q : _ = and-eq-true-iff (isOthers (w .host .at) || isOver (w .host .at)) (otherRest t) .0 e in
       let f : _ =
-      rest-free (isOthers (w .host .at)) (otherRest t) (isOver (w .host .at)) (isData t)
-      (others-free (w .model .chip) (w .host .at) (s .awaits)) over-free e in
-      let r : _ = rest-ends (isOthers (w .host .at)) (isOver (w .host .at)) t e in
+      rest-free (isOthers (w .host .at)) (isOver (w .host .at)) (others-free (w .model .chip) (w .host .at) (s .awaits)) over-free (q .0) in
+      let r : _ = rest-ends t (q .1) in
       goes-by t b over w (r .0) (ends-not-sends t (r .0) (r .1)) f refl x) (λ _. x)))
 
   -- ---- every action
@@ -199,4 +203,5 @@ module _ (w : World) (s : Standing w) where
       stage-out reaches (and-eq-true-iff (isOver (w .host .at)) (w .host .holds) .0 e .0) y) (λ _. y)
   stage-act (outData fate seen) y = by-test Stage (isDatas (w .host .at)) (λ now. stage-data fate seen now y) (λ _. y)
   stage-act (other t b) y = stage-other t b y
-  stage-act timeout y = stage-timeout y
+  stage-act timeout y = stage-over y
+  stage-act late y = stage-timeout (w .host) refl (λ h. h) y

@@ -13,7 +13,6 @@ use Rattle.choice.proofs.ByTest.{by-test}
 use Rattle.refusal.specs.declared.Refusal.{Refusal}
 use Rattle.state.specs.State.{Model}
 use Rattle.formed.specs.Formed.{wellFormed}
-use Rattle.frame.specs.Place.{awaited}
 use Rattle.frame.proofs.Frame.{same}
 use Rattle.driver.specs.declared.Did.the-variants as did
 use Rattle.driver.specs.Registers.{written, seen}

@@ -10,7 +10,6 @@ use Rattle.choice.proofs.ByTest.{by-test}
 use Rattle.event.specs.declared.Event.{Event}
 use Rattle.event.specs.declared.Event.the-variants as event
 use Rattle.event.specs.Event.{inRange}
-use Rattle.state.specs.declared.Wait.the-variants as wait
 use Rattle.state.specs.declared.Chip.{Chip}
 use Rattle.state.specs.State.{Model}
 use Rattle.settings.specs.Settings.{operational}
@@ -21,7 +20,7 @@ use Rattle.frame.specs.Driver.{endpoint1, reserved}
 use Rattle.frame.proofs.Frame.{same, frame}
 use Rattle.frame.proofs.Pipes.{unreserved-keeps}
 use Rattle.typed.specs.Next.{next}
-use Rattle.standing.specs.Standing.{endpoint, Awaits}
+use Rattle.standing.specs.Standing.{Awaits}
 use Rattle.world.specs.Host.{Packet, Open, over, acks, fails, datas, others, Host, isAcks, isDatas, isOthers}
 use Rattle.world.specs.World.{Lists, World, happens, hostly, goes, actTake}
 use Rattle.sendpipe.specs.Stage.{Stage}
@@ -125,11 +124,3 @@ module _ (c : Chip) where
   others-free fails a t = never (sym t)
   others-free datas a t = never (sym t)
   others-free others a t = a .0
-
-  pub acks-wait : (o : Open) → Awaits o c → isAcks o ≡ true → c .pending .wait ≡ wait.Handshake (endpoint 1)
-  unfolding Awaits isAcks
-  acks-wait over a t = never (sym t)
-  acks-wait acks a t = a
-  acks-wait fails a t = never (sym t)
-  acks-wait datas a t = never (sym t)
-  acks-wait others a t = never (sym t)

@@ -7,7 +7,6 @@ use mathlib.Core.Logic.{inl, inr}
 use mathlib.Core.Bool.{Bool, true, false, not, false≢true}
 use mathlib.Core.List.{List, [], _∷_, _++_, append-nil}
 use Rattle.choice.specs.Choice.{pick}
-use Rattle.window.specs.Window.{indexOf}
 use Rattle.event.specs.declared.Event.{Event}
 use Rattle.event.specs.declared.Event.the-variants as event
 use Rattle.state.specs.declared.Wait.the-variants as wait
@@ -18,7 +17,7 @@ use Rattle.answer.specs.declared.Packet as packet
 use Rattle.answer.specs.Answer.{packetAt}
 use Rattle.packet.specs.Packet.{packetBytes}
 use Rattle.step.specs.Step.{stepBytes}
-use Rattle.frame.specs.Place.{sendingPlace, receivingPlace, awaited}
+use Rattle.frame.specs.Place.{receivingPlace, awaited}
 use Rattle.frame.proofs.Frame.{same}
 use Rattle.typed.specs.Next.{next}
 use Rattle.standing.specs.Standing.{endpoint, Awaits, Standing}
@@ -47,15 +46,12 @@ module _ (c : Chip) where
   unfolding awaited receivingPlace pick
   data-awaited e = rw e refl
 
-  pub handshake-awaited : c .pending .wait ≡ wait.Handshake (endpoint 1) → awaited one c ≡ true
-  unfolding awaited sendingPlace indexOf pick
-  handshake-awaited e = rw e refl
-
   -- where its handshake is awaited, that is what is awaited
   pub waits-one : (o : Open) → Awaits o c → awaited one c ≡ true → c .pending .wait ≡ wait.Handshake (endpoint 1)
   unfolding Awaits
   waits-one over a t = absurd {0} (false≢true (sym (none-awaited a) ∙ t))
-  waits-one acks a t = a
+  waits-one acks (inl a) t = absurd {0} (false≢true (sym (none-awaited a) ∙ t))
+  waits-one acks (inr a) t = a
   waits-one fails (inl a) t = absurd {0} (false≢true (sym (none-awaited a) ∙ t))
   waits-one fails (inr (inl a)) t = a
   waits-one fails (inr (inr a)) t = absurd {0} (false≢true (sym (data-awaited a) ∙ t))

@@ -2,8 +2,8 @@
 -- Assumes nothing.
 use Prim.Native.Nat.{ℕ, zero, suc, _≤_, _<_}
 use native.Mathlib.Omega.{arith}
-use mathlib.Core.Path.{_≡_, refl, sym, _∙_}
-use mathlib.Core.Bool.{Bool, true, false, _&&_, _||_, false≢true}
+use mathlib.Core.Path.{_≡_, refl}
+use mathlib.Core.Bool.{Bool, true, false, false≢true}
 use mathlib.Core.List.{List, [], _∷_}
 use Rattle.event.specs.declared.BusEndpoint.{BusEndpoint}
 use Rattle.event.specs.declared.Event.{Event}
@@ -12,7 +12,7 @@ use Rattle.event.specs.Event.{valuesOf}
 use Rattle.epc.specs.Bits.{bitOf}
 use Rattle.typed.specs.Typed.{Bytes, TypedEvent}
 use Rattle.frame.specs.Settings.{isAccess, isToken}
-use Rattle.world.specs.Host.{otherToken, otherRest, isData}
+use Rattle.world.specs.Host.{otherToken, otherRest}
 
 pub no-bytes : Bytes []
 no-bytes i = omega arith
@@ -68,20 +68,14 @@ other-is-token a e f (event.Data pid sound) h = absurd {0} (false≢true h)
 other-is-token a e f event.Ack h = absurd {0} (false≢true h)
 other-is-token a e f event.Timeout h = absurd {0} (false≢true h)
 
-never : (x y : Bool) → (x && false || y && false) ≡ false
-never true true = refl
-never true false = refl
-never false true = refl
-never false false = refl
-
--- what follows a token, whether one is open or not
-pub rest-ends : (x y : Bool) (t : Event) → (x && otherRest t || y && isData t) ≡ true → (isAccess t ≡ false) × (isToken t ≡ false)
-unfolding otherRest isData isAccess isToken
-rest-ends x y (event.Read r) h = absurd {0} (false≢true (sym (never x y) ∙ h))
-rest-ends x y (event.Write r v) h = absurd {0} (false≢true (sym (never x y) ∙ h))
-rest-ends x y (event.In a e) h = absurd {0} (false≢true (sym (never x y) ∙ h))
-rest-ends x y (event.Out a e) h = absurd {0} (false≢true (sym (never x y) ∙ h))
-rest-ends x y (event.Setup a e) h = absurd {0} (false≢true (sym (never x y) ∙ h))
-rest-ends x y (event.Data pid sound) h = (refl, refl)
-rest-ends x y event.Ack h = (refl, refl)
-rest-ends x y event.Timeout h = absurd {0} (false≢true (sym (never x y) ∙ h))
+-- what follows a token
+pub rest-ends : (t : Event) → otherRest t ≡ true → (isAccess t ≡ false) × (isToken t ≡ false)
+unfolding otherRest isAccess isToken
+rest-ends (event.Read r) h = absurd {0} (false≢true h)
+rest-ends (event.Write r v) h = absurd {0} (false≢true h)
+rest-ends (event.In a e) h = absurd {0} (false≢true h)
+rest-ends (event.Out a e) h = absurd {0} (false≢true h)
+rest-ends (event.Setup a e) h = absurd {0} (false≢true h)
+rest-ends (event.Data pid sound) h = (refl, refl)
+rest-ends event.Ack h = (refl, refl)
+rest-ends event.Timeout h = absurd {0} (false≢true h)

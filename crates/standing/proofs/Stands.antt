@@ -14,6 +14,7 @@ use Rattle.event.specs.declared.Event.{Event}
 use Rattle.event.specs.declared.Event.the-variants as event
 use Rattle.event.specs.Event.{inRange}
 use Rattle.epc.specs.Bits.{bitOf}
+use Rattle.state.specs.declared.Wait.{Wait}
 use Rattle.state.specs.State.{Model}
 use Rattle.typed.specs.Typed.{Bytes, TypedEvent}
 use Rattle.typed.specs.Next.{next}
@@ -25,15 +26,15 @@ use Rattle.frame.proofs.Awaits.{wait-over}
 use Rattle.driver.specs.Driver.{Call, startable, offered, sendServed}
 use Rattle.receiving.specs.Receive.{receiveServed}
 use Rattle.driving.proofs.Kept.{Sound, offer-keeps, send-keeps, receive-keeps}
-use Rattle.world.specs.Host.{Packet, over, fails, datas, Host, Fate, sound, damaged, lost, Action, offer, sendService, receiveService, access, take, inToken, ack, outToken, outData, other, timeout, otherToken, otherRest, isData, isOver, isAcks, isDatas, isOthers}
+use Rattle.world.specs.Host.{Packet, over, fails, datas, Host, Fate, sound, damaged, lost, Action, offer, sendService, receiveService, access, take, inToken, ack, outToken, outData, other, timeout, late, otherToken, otherRest, isOver, isAcks, isDatas, isOthers}
 use Rattle.world.specs.World.{Pipes, Lists, World, startWorld, called, actOffer, actSend, actReceive, answerTo, happens, hostly, goes, actIn, actAck, actTake, actOut, hostOut, isAck, sent, actData, afterToken, actOther, act, acts}
 use Rattle.world.specs.Lists.{FateBytes, ActionBytes, AllBytes}
 use Rattle.standing.specs.Standing.{Awaits, Holding, Standing}
 use Rattle.standing.proofs.Reaches.{pipes-range, Ranges, in-reaches-then, out-reaches-then, other-not-for}
 use Rattle.standing.proofs.Calls.{Leaves, offer-leaves, send-leaves, receive-leaves}
-use Rattle.standing.proofs.Waits.{in-waits, out-waits, token-refused, other-free}
+use Rattle.standing.proofs.Waits.{in-waits, out-waits, other-free}
 use Rattle.standing.proofs.Keeps.{Chips, awaits-by, access-untouched, bus-chips, access-chips, chips-sound, call-chips}
-use Rattle.standing.proofs.Turns.{goes-holding, in-holding, out-holding, token-not-datas, over-none, acks-fail, datas-fail, in-awaits, token-awaits}
+use Rattle.standing.proofs.Turns.{goes-holding, in-holding, out-holding, token-not-datas, over-none, none-awaits, acks-fail, datas-fail, in-awaits, token-awaits}
 use Rattle.standing.proofs.Events.{no-bytes, in-typed, out-typed, data-typed, ack-typed, timeout-typed, token-no-access, other-is-token, rest-ends}
 use Rattle.standing.proofs.Start.{start-stands}
 
@@ -191,9 +192,16 @@ module _ (w : World) (s : Standing w) where
       end-stands event.Timeout [] (goes over (w .host)) (w .lists) (unfold isAccess in refl) (unfold isToken in refl) timeout-typed no-bytes
       (unfold goes in refl) (goes-holding over (w .host) (unfold isDatas in refl) (s .holding))
 
+  late-stands : Standing (happens event.Timeout [] (w .host) (w .lists) w)
+  unfolding isAccess isToken
+  late-stands =
+      bus-stands event.Timeout [] (w .host) (w .lists) refl timeout-typed no-bytes
+      (none-awaits (w .host .at) (next event.Timeout [] (w .model) .chip) (wait-over event.Timeout [] (w .model) refl refl (s .set-up .operates)))
+      (s .holding)
+
   token-stands : (t : Event) (b : Packet) → TypedEvent t → Bytes b → otherToken (w .pipes .a) (w .pipes .e) (w .pipes .f) t ≡ true
-      → Standing (happens t b (goes (afterToken (answerTo t b (w .model))) (w .host)) (w .lists) w)
-  unfolding answerTo goes
+      → Standing (happens t b (goes (afterToken (next t b (w .model) .chip .pending .wait)) (w .host)) (w .lists) w)
+  unfolding goes
   token-stands t b ty bs o =
       let p : Pipes = w .pipes in
       let m : Model = w .model in
@@ -201,14 +209,14 @@ module _ (w : World) (s : Standing w) where
       let i : isAccess t ≡ false = token-no-access t token in
       let free : (q : Place) → Piped q → awaited q (next t b m .chip) ≡ false =
       λ q d. other-free b m (s .set-up .operates) t q i (other-not-for p (m .chip) r (s .set-up) t o q d) in
-      bus-stands t b (goes (afterToken (answerTo t b m)) (w .host)) (w .lists) i ty bs
-      (token-awaits (answerTo t b m) (next t b m .chip) (token-refused b m (s .set-up .operates) t token) free)
-      (goes-holding (afterToken (answerTo t b m)) (w .host) (token-not-datas (answerTo t b m)) (s .holding))
+      let v : Wait = next t b m .chip .pending .wait in
+      bus-stands t b (goes (afterToken v) (w .host)) (w .lists) i ty bs (token-awaits (next t b m .chip) free)
+      (goes-holding (afterToken v) (w .host) (token-not-datas v) (s .holding))
 
-  rest-stands : (t : Event) (b : Packet) → TypedEvent t → Bytes b → (isOthers (w .host .at) && otherRest t || isOver (w .host .at) && isData t) ≡ true
+  rest-stands : (t : Event) (b : Packet) → TypedEvent t → Bytes b → otherRest t ≡ true
       → Standing (happens t b (goes over (w .host)) (w .lists) w)
   rest-stands t b ty bs o =
-      let x : _ = rest-ends (isOthers (w .host .at)) (isOver (w .host .at)) t o in
+      let x : _ = rest-ends t o in
       end-stands t b (goes over (w .host)) (w .lists) (x .0) (x .1) ty bs
       (unfold goes in refl) (goes-holding over (w .host) (unfold isDatas in refl) (s .holding))
 
@@ -219,8 +227,8 @@ module _ (w : World) (s : Standing w) where
       let ty : TypedEvent t = in-range-typed t (length b) (not-no (inRange t (length b)) n) in
       by-test Standing (isOver (w .host .at) && otherToken (w .pipes .a) (w .pipes .e) (w .pipes .f) t)
       (λ o. token-stands t b ty bs (and-eq-true-iff (isOver (w .host .at)) (otherToken (w .pipes .a) (w .pipes .e) (w .pipes .f) t) .0 o .1)) (λ _.
-      by-test Standing (isOthers (w .host .at) && otherRest t || isOver (w .host .at) && isData t)
-      (λ o. rest-stands t b ty bs o) (λ _. s)))
+      by-test Standing ((isOthers (w .host .at) || isOver (w .host .at)) && otherRest t)
+      (λ o. rest-stands t b ty bs (and-eq-true-iff (isOthers (w .host .at) || isOver (w .host .at)) (otherRest t) .0 o .1)) (λ _. s)))
 
 -- ---- every action
 
@@ -249,6 +257,7 @@ act-stands (outToken reaches) w bs s =
 act-stands (outData fate seen) w bs s = by-test Standing (isDatas (w .host .at)) (λ o. data-stands w s fate seen bs o) (λ _. s)
 act-stands (other t b) w bs s = other-stands w s t b bs
 act-stands timeout w bs s = timeout-stands w s
+act-stands late w bs s = late-stands w s
 
 -- So do many.
 pub acts-stand : (xs : List Action) (w : World) → AllBytes xs → Standing w → Standing (acts xs w)

@@ -5,7 +5,8 @@ use mathlib.Core.Path.{_≡_, refl, sym, _∙_}
 use mathlib.Core.Bool.{Bool, true, false, false≢true}
 use mathlib.Core.Logic.{inl, inr}
 use Rattle.choice.proofs.ByTest.{by-test}
-use Rattle.state.specs.declared.Wait.the-variants.{Nothing}
+use Rattle.state.specs.declared.Wait.{Wait}
+use Rattle.state.specs.declared.Wait.the-variants.{Nothing, Handshake, Data, Setup}
 use Rattle.state.specs.declared.Chip.{Chip}
 use Rattle.settings.specs.Settings.{numbered}
 use Rattle.answer.specs.declared.Answer.{Answer}
@@ -15,7 +16,7 @@ use Rattle.frame.specs.Driver.{Piped, endpoint1, endpoint2}
 use Rattle.world.specs.Host.{Open, over, acks, fails, datas, others, Host, isOver, isAcks, isDatas}
 use Rattle.world.specs.World.{goes, sees, hostIn, hostOut, afterToken}
 use Rattle.standing.specs.Standing.{endpoint, Awaits, Holding}
-use Rattle.standing.proofs.Waits.{Sent-waits, Refused-waits}
+use Rattle.standing.proofs.Waits.{Sent-waits}
 use Rattle.standing.proofs.Events.{no-bytes}
 
 -- ---- the host
@@ -53,16 +54,12 @@ out-holding acked h g =
     })
     (λ _. goes-holding over h refl g)
 
-pub token-not-datas : (x : Answer) → isDatas (afterToken x) ≡ false
+pub token-not-datas : (v : Wait) → isDatas (afterToken v) ≡ false
 unfolding afterToken isDatas
-token-not-datas answer.Silence = refl
-token-not-datas (answer.Value v) = refl
-token-not-datas (answer.Data0 p) = refl
-token-not-datas (answer.Data1 p) = refl
-token-not-datas answer.Broken = refl
-token-not-datas answer.Ack = refl
-token-not-datas answer.Nak = refl
-token-not-datas answer.Stall = refl
+token-not-datas Nothing = refl
+token-not-datas (Handshake e) = refl
+token-not-datas (Data e) = refl
+token-not-datas Setup = refl
 
 -- ---- what is awaited
 
@@ -75,10 +72,20 @@ over-none fails c t h = absurd {0} (false≢true t)
 over-none datas c t h = absurd {0} (false≢true t)
 over-none others c t h = absurd {0} (false≢true t)
 
+-- after a timeout nothing is, wherever the host is
+pub none-awaits : (o : Open) (c : Chip) → c .pending .wait ≡ Nothing → Awaits o c
+unfolding Awaits awaited
+none-awaits over c h = h
+none-awaits acks c h = inl h
+none-awaits fails c h = inl h
+none-awaits datas c h = inl h
+none-awaits others c h = (rw h refl, rw h refl)
+
 pub acks-fail : (o : Open) (c : Chip) → isAcks o ≡ true → Awaits o c → Awaits fails c
 unfolding isAcks Awaits
 acks-fail over c t h = absurd {0} (false≢true t)
-acks-fail acks c t h = inr (inl h)
+acks-fail acks c t (inl h) = inl h
+acks-fail acks c t (inr h) = inr (inl h)
 acks-fail fails c t h = absurd {0} (false≢true t)
 acks-fail datas c t h = absurd {0} (false≢true t)
 acks-fail others c t h = absurd {0} (false≢true t)
@@ -109,22 +116,22 @@ unfolding hostIn goes sees
 in-awaits false x h c k = unseen x c k
 in-awaits true answer.Silence h c k = unseen answer.Silence c k
 in-awaits true (answer.Value v) h c k = unseen (answer.Value v) c k
-in-awaits true (answer.Data0 p) h c k = unfold Sent-waits Awaits in k
-in-awaits true (answer.Data1 p) h c k = unfold Sent-waits Awaits in k
+in-awaits true (answer.Data0 p) h c k = unfold Sent-waits Awaits in (inr k)
+in-awaits true (answer.Data1 p) h c k = unfold Sent-waits Awaits in (inr k)
 in-awaits true answer.Broken h c k = unseen answer.Broken c k
 in-awaits true answer.Ack h c k = unseen answer.Ack c k
 in-awaits true answer.Nak h c k = unfold Sent-waits Awaits in k
 in-awaits true answer.Stall h c k = unfold Sent-waits Awaits in k
 
 -- after a token of another transaction
-pub token-awaits : (x : Answer) (c : Chip) → Refused-waits x (c .pending .wait) → ((q : Place) → Piped q → awaited q c ≡ false)
-    → Awaits (afterToken x) c
-unfolding afterToken Refused-waits Awaits
-token-awaits answer.Silence c h free = (free (sends (numbered 1)) endpoint1, free (receives (numbered 1)) endpoint2)
-token-awaits (answer.Value v) c h free = (free (sends (numbered 1)) endpoint1, free (receives (numbered 1)) endpoint2)
-token-awaits (answer.Data0 p) c h free = (free (sends (numbered 1)) endpoint1, free (receives (numbered 1)) endpoint2)
-token-awaits (answer.Data1 p) c h free = (free (sends (numbered 1)) endpoint1, free (receives (numbered 1)) endpoint2)
-token-awaits answer.Broken c h free = (free (sends (numbered 1)) endpoint1, free (receives (numbered 1)) endpoint2)
-token-awaits answer.Ack c h free = (free (sends (numbered 1)) endpoint1, free (receives (numbered 1)) endpoint2)
-token-awaits answer.Nak c h free = h
-token-awaits answer.Stall c h free = h
+pub token-awaits : (c : Chip) → ((q : Place) → Piped q → awaited q c ≡ false) → Awaits (afterToken (c .pending .wait)) c
+token-awaits c free = go (c .pending .wait) refl
+  where
+    both : Awaits others c
+    both = unfold Awaits in (free (sends (numbered 1)) endpoint1, free (receives (numbered 1)) endpoint2)
+
+    go : (v : Wait) → c .pending .wait ≡ v → Awaits (afterToken v) c
+    go Nothing e = unfold afterToken Awaits in e
+    go (Handshake x) e = unfold afterToken in both
+    go (Data x) e = unfold afterToken in both
+    go Setup e = unfold afterToken in both

@@ -20,10 +20,10 @@ use Rattle.world.specs.World.{Pipes, World}
 abbrev pub endpoint : ℕ → Endpoint
 endpoint n = record { 0 = n }
 
--- what the chip awaits, by what the host is at
+-- what the chip awaits, by what the host is at; nothing, after a timeout
 unfoldable pub Awaits : Open → Chip → Type 0
 Awaits over c = c .pending .wait ≡ Nothing
-Awaits acks c = c .pending .wait ≡ Handshake (endpoint 1)
+Awaits acks c = (c .pending .wait ≡ Nothing) ⊎ (c .pending .wait ≡ Handshake (endpoint 1))
 Awaits fails c = (c .pending .wait ≡ Nothing) ⊎ (c .pending .wait ≡ Handshake (endpoint 1)) ⊎ (c .pending .wait ≡ Data (endpoint 2))
 Awaits datas c = (c .pending .wait ≡ Nothing) ⊎ (c .pending .wait ≡ Data (endpoint 2))
 Awaits others c = (awaited (sends (numbered 1)) c ≡ false) × (awaited (receives (numbered 1)) c ≡ false)

@@ -11,7 +11,8 @@ abbrev pub Packet : Type 0
 Packet = List ℕ
 
 -- what the host's transaction is at: none is open; it has seen a packet and sends its ACK; it has not seen what it waited for, and the timeout
--- that closes the transaction is still to come; its OUT token is sent, and the data is next; a transaction with another endpoint or address
+-- that closes the transaction is still to come; its OUT token is sent, and the data is next; a transaction with another endpoint or address that
+-- the chip has a part in
 pub data Open : Type 0 where
   over : Open
   acks : Open
@@ -55,7 +56,8 @@ pub record Host : Type 0 where
   pub packet : Packet
   pub at : Open
 
--- "Tokens, data and handshakes may be lost or damaged, never forged": damaged data has any bytes and either PID
+-- "Tokens, data and handshakes may be lost or damaged, never forged": damaged data has any bytes and either PID; a damaged token or handshake
+-- counts as lost, since nobody takes it up
 pub data Fate : Type 0 where
   sound : Fate
   damaged : Bool → Packet → Fate
@@ -68,16 +70,18 @@ pub data Action : Type 0 where
   receiveService : Action
   -- a register access by somebody else
   access : Event → Action
-  -- the host takes up a packet to send; it begins an IN, its token lost or not, the answer seen or not; its ACK is lost or not
+  -- the host takes up a packet to send; it begins an IN: does its token reach the chip, and is the answer seen; does its ACK reach the chip
   take : Packet → Action
   inToken : Bool → Bool → Action
   ack : Bool → Action
-  -- it begins an OUT, its token lost or not; its data with their fate, the answer seen or not
+  -- it begins an OUT: does its token reach the chip; its data with their fate, and is the answer seen
   outToken : Bool → Action
   outData : Fate → Bool → Action
-  -- a bus event of another transaction, with its payload; a timeout
+  -- a bus event of another transaction, with its payload; the timeout that closes a transaction; a timeout at any time, after which the host goes
+  -- on where it is, so that its data or its ACK comes late
   other : Event → Packet → Action
   timeout : Action
+  late : Action
 
 -- a token of another transaction: not the IN of the one pipe, not the OUT of the other; any SETUP
 unfoldable pub elsewhere : ℕ → BusEndpoint → ℕ → BusEndpoint → Bool
@@ -93,7 +97,7 @@ otherToken a e f (event.Data p s) = false
 otherToken a e f event.Ack = false
 otherToken a e f event.Timeout = false
 
--- what follows such a token: data, or the host's ACK
+-- what follows such a token, which may have been lost: data, or the host's ACK
 unfoldable pub otherRest : Event → Bool
 otherRest (event.Read r) = false
 otherRest (event.Write r v) = false
@@ -103,13 +107,3 @@ otherRest (event.Setup a e) = false
 otherRest (event.Data p s) = true
 otherRest event.Ack = true
 otherRest event.Timeout = false
-
-unfoldable pub isData : Event → Bool
-isData (event.Read r) = false
-isData (event.Write r v) = false
-isData (event.In a e) = false
-isData (event.Out a e) = false
-isData (event.Setup a e) = false
-isData (event.Data p s) = true
-isData event.Ack = false
-isData event.Timeout = false

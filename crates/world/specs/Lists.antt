@@ -12,7 +12,7 @@ use Rattle.state.specs.State.{Model, receiverAt}
 use Rattle.settings.specs.Settings.{numbered}
 use Rattle.typed.specs.Typed.{Bytes}
 use Rattle.driver.specs.declared.Driver.{Driver}
-use Rattle.world.specs.Host.{Packet, Fate, sound, damaged, lost, Action, offer, sendService, receiveService, access, take, inToken, ack, outToken, outData, other, timeout}
+use Rattle.world.specs.Host.{Packet, Fate, sound, damaged, lost, Action, offer, sendService, receiveService, access, take, inToken, ack, outToken, outData, other, timeout, late}
 use Rattle.world.specs.World.{World, held, ifSo, same, act, acts}
 
 -- every byte is a byte, which Rattle's types give and lists of numbers do not
@@ -33,6 +33,7 @@ ActionBytes (outToken reaches) = Unit
 ActionBytes (outData fate seen) = FateBytes fate
 ActionBytes (other t s) = Bytes s
 ActionBytes timeout = Unit
+ActionBytes late = Unit
 
 unfoldable pub AllBytes : List Action → Type 0
 AllBytes [] = Unit
@@ -79,3 +80,5 @@ pub record SentAgain (w : World) : Type 0 where
 pub record ReceivedAgain (w : World) : Type 0 where
   pub known : recoverReceiving w .lists .known ≡ w .lists .known ++ hostHeld w
   pub taken : recoverReceiving w .lists .taken ≡ w .lists .known ++ hostHeld w
+  -- no packet waits in RXFIFO1 then
+  pub all : has (recoverReceiving w) ≡ w .lists .known ++ hostHeld w

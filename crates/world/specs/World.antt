@@ -10,6 +10,8 @@ use Rattle.event.specs.declared.Event.{Event}
 use Rattle.event.specs.declared.Event.the-variants as event
 use Rattle.event.specs.Event.{inRange}
 use Rattle.epc.specs.Bits.{bitOf}
+use Rattle.state.specs.declared.Wait.{Wait}
+use Rattle.state.specs.declared.Wait.the-variants as wait
 use Rattle.state.specs.State.{Model}
 use Rattle.answer.specs.declared.Answer.{Answer}
 use Rattle.answer.specs.declared.Answer.the-variants as answer
@@ -23,7 +25,7 @@ use Rattle.driver.specs.declared.Did.{Did}
 use Rattle.driver.specs.declared.Did.the-variants as did
 use Rattle.driver.specs.Driver.{Call, fresh, setUp, offered, sendServed}
 use Rattle.receiving.specs.Receive.{receiveServed}
-use Rattle.world.specs.Host.{Packet, Open, over, acks, fails, datas, others, Host, Fate, sound, damaged, lost, Action, offer, sendService, receiveService, access, take, inToken, ack, outToken, outData, other, timeout, otherToken, otherRest, isData, isOver, isAcks, isDatas, isOthers}
+use Rattle.world.specs.Host.{Packet, Open, over, acks, fails, datas, others, Host, Fate, sound, damaged, lost, Action, offer, sendService, receiveService, access, take, inToken, ack, outToken, outData, other, timeout, late, otherToken, otherRest, isOver, isAcks, isDatas, isOthers}
 
 -- the address and the two bus endpoints
 pub record Pipes : Type 0 where
@@ -230,24 +232,20 @@ actData lost seen w = hostly (goes fails (w .host)) w
 
 -- ---- other transactions, and timeouts
 
--- a NAK or a STALL to a token is the end of its transaction
-unfoldable pub afterToken : Answer → Open
-afterToken answer.Silence = others
-afterToken (answer.Value v) = others
-afterToken (answer.Data0 p) = others
-afterToken (answer.Data1 p) = others
-afterToken answer.Broken = others
-afterToken answer.Ack = others
-afterToken answer.Nak = over
-afterToken answer.Stall = over
+-- a transaction is open where the chip awaits something after its token; one that the chip has no part in, or has refused, is over for it
+unfoldable pub afterToken : Wait → Open
+afterToken wait.Nothing = over
+afterToken (wait.Handshake e) = others
+afterToken (wait.Data e) = others
+afterToken wait.Setup = others
 
--- a token where no transaction is open; data or the host's ACK after it; data whose token was lost
+-- a token where no transaction is open; data or the host's ACK after it, or where the token was lost
 unfoldable pub actOther : Event → Packet → World → World
 actOther t s w =
     pick (not (inRange t (length s))) w
     (pick (isOver (w .host .at) && otherToken (w .pipes .a) (w .pipes .e) (w .pipes .f) t)
-    (happens t s (goes (afterToken (answerTo t s (w .model))) (w .host)) (w .lists) w)
-    (pick (isOthers (w .host .at) && otherRest t || isOver (w .host .at) && isData t)
+    (happens t s (goes (afterToken (next t s (w .model) .chip .pending .wait)) (w .host)) (w .lists) w)
+    (pick ((isOthers (w .host .at) || isOver (w .host .at)) && otherRest t)
     (happens t s (goes over (w .host)) (w .lists) w)
     w))
 
@@ -266,6 +264,7 @@ act (outToken reaches) w = pick (isOver (w .host .at) && w .host .holds) (actOut
 act (outData fate seen) w = pick (isDatas (w .host .at)) (actData fate seen w) w
 act (other t s) w = actOther t s w
 act timeout w = happens event.Timeout [] (goes over (w .host)) (w .lists) w
+act late w = happens event.Timeout [] (w .host) (w .lists) w
 
 unfoldable pub acts : List Action → World → World
 acts [] w = w
