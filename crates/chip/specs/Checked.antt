@@ -5,6 +5,7 @@ use mathlib.Core.Bool.{not}
 use mathlib.Core.List.{List}
 use lib.ListN.{length}
 use Rattle.choice.specs.Choice.{pick}
+use Rattle.refusal.specs.Refusal.{numberOf}
 use Rattle.refusal.specs.declared.Refusal.{Refusal}
 use Rattle.refusal.specs.declared.Refusal.the-variants.{NotWellFormed, OutOfRange}
 use Rattle.event.specs.declared.Event.{Event}
@@ -14,8 +15,14 @@ use Rattle.interrupt.specs.Interrupt.{line}
 use Rattle.answer.specs.declared.Out.{Out}
 use Rattle.step.specs.Step.{stepOf, stepBytes}
 use Rattle.formed.specs.Formed.{wellFormed}
+use Rattle.chip.specs.declared.Reply.{Reply}
 use Rattle.chip.specs.declared.Reply.the-variants.{Answered, Refused}
 use Rattle.chip.specs.declared.Stepped.{Stepped}
+
+-- 01's number where an event is refused, 0 where it is answered; the answer's own word is `answerText`
+abbrev pub refusedWith : Reply → ℕ
+refusedWith (Answered a) = 0
+refusedWith (Refused why) = numberOf why
 
 -- "5 state not well formed .. state as given"; 4, "state unchanged"; the line is that of the state as given
 abbrev pub refusing : Refusal → Chip → Stepped

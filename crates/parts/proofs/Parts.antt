@@ -2,8 +2,8 @@
 -- Assumes nothing.
 use Prim.Native.Nat.{ℕ, zero, suc, _+_, _≤_, _<_}
 use native.Mathlib.Omega.{arith}
-use mathlib.Core.Path.{_≡_, refl, ap}
-use mathlib.Core.List.{List, [], _++_, append-nil, append-assoc}
+use mathlib.Core.Path.{_≡_, refl, sym, ap}
+use mathlib.Core.List.{List, _++_, append-nil, append-assoc}
 use lib.ListN.{length, take}
 use Rattle.choice.proofs.ByTest.{by-test}
 use Rattle.trace.specs.Record.{Reading, event, end, refuse, readAt, stretch}
@@ -11,20 +11,11 @@ use Rattle.reading.proofs.Reader.{next-past, place-is-start}
 use Rattle.printed.proofs.Overlay.{overlay-take, overlay-length}
 use Rattle.lines.specs.Line.{refusalText}
 use Rattle.running.specs.Output.{Spot, did, lineOf, shown, outputFrom}
-use Rattle.running.specs.Run.{Reason, ended, refused, full, Running, Stopped, stopping, running, roomy, ending, onward, printing, runFor}
+use Rattle.running.specs.Run.{full, Running, Stopped, stopping, running, roomy, ending, onward, printing, runFor}
 use Rattle.running.proofs.Turns.{room-says, refusal-within}
 use Rattle.running.proofs.Within.{Within, Numbers, line-short}
+use Rattle.parts.specs.Loop.{rest, written}
 use Rattle.parts.proofs.Fuel.{enough}
-
--- what is still to come: only where a run stopped as full
-unfoldable pub rest : Reason → List ℕ → List ℕ
-rest ended text = []
-rest (refused k at) text = []
-rest full text = text
-
--- what is written of a run
-abbrev pub written : Running → List ℕ
-written r = take (r .written) (r .out)
 
 module _ (trace : List ℕ) (long : length trace < 18446744073709551616) where
   -- the whole output from there on
@@ -64,7 +55,7 @@ module _ (trace : List ℕ) (long : length trace < 18446744073709551616) where
         by-test (Is (written r ++ outputFrom (suc n) trace (r .spot))) (roomy r) (λ room.
         let fits : r .written + length text ≤ length (r .out) =
         omega (arith, room-says (r .out) (r .written) (r .spot .number) room .0, refusal-within (r .spot .number) k at (small .number) (omega arith) (omega (arith, small .place))) in
-        rw (h, append-nil (written (printing text (r .spot) r)), prints text (r .spot) r fits)) (λ _. cramped (suc n) r le)
+        rw (h, prints text (r .spot) r fits) (sym (append-nil (written r ++ text)))) (λ _. cramped (suc n) r le)
 
     -- where the run is after an event
     after-within : (text : List ℕ) (p : Spot) → r .written + length text ≤ length (r .out) → Within (printing text p r)

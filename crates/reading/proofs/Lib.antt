@@ -1,5 +1,4 @@
 -- The theorems of the reader of traces.
-pub mod Meaning
 pub mod Table
 pub mod Past
 pub mod Answers

@@ -1,0 +1,2 @@
+-- The definitions that the laws of running in parts cite.
+pub mod Loop
