@@ -143,9 +143,9 @@ fn hex(s: &[u8]) {
 
 // One record of a trace, given to the chip; no bytes at all are a record that is cut.
 fn event(c: Chip, memory: &mut [u8; 392], s: &[u8]) -> Chip {
-    match trace::read(s, 0) {
+    match reader::read(s, 0) {
         Found::Record(event, span) => {
-            let r = chip::step(c, memory, event, trace::payload(s, span));
+            let r = chip::step(c, memory, event, reader::payload(s, span));
             let reply = r.reply;
             replied(reply, memory, r.line);
             r.chip

@@ -4,6 +4,7 @@ pub mod Once
 mod Meanings
 pub mod Fifos
 pub mod Reader
+pub mod Lent
 pub mod Endpoints
 pub mod Control
 pub mod State

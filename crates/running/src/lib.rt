@@ -67,14 +67,14 @@ fn events(c: Chip, memory: &mut [u8; 392], s: &[u8], at: usize, number: u64, out
     let mut n = number;
     let mut written = 0usize;
     while place < s.len() {
-        let found = trace::read(s, place);
+        let found = reader::read(s, place);
         let Found::Record(event, span) = found else {
             return ended(chip, memory, place, n, written, found, out);
         };
         if !roomy(out, written, n) {
             return stopping(chip, place, n, written, Stop::Full);
         }
-        let o = step::step(chip, memory, event, trace::payload(s, span));
+        let o = step::step(chip, memory, event, reader::payload(s, span));
         chip = o.chip;
         let answer = o.answer;
         let k = lines::line(out, written, n, answer, memory, interrupt::line(chip));
