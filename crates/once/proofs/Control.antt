@@ -25,9 +25,9 @@ use Rattle.controlbus.proofs.handshake.Reads as controlbus-handshake
 use Rattle.controlbus.proofs.judge.Reads as controlbus-judge
 use Rattle.controlbus.proofs.received.Reads as controlbus-received
 use Rattle.controlbus.proofs.out_token.Reads as controlbus-out-token
-use Rattle.controlbus.proofs.setup.judge_setup.Reads as controlbus-judge-setup
-use Rattle.controlbus.proofs.setup.received_setup.Reads as controlbus-received-setup
-use Rattle.controlbus.proofs.setup.setup_dropped.Reads as controlbus-setup-dropped
+use Rattle.controlbus.proofs.setup.judge_setup.Reads as controlbus-setup-judge-setup
+use Rattle.controlbus.proofs.setup.received_setup.Reads as controlbus-setup-received-setup
+use Rattle.controlbus.proofs.setup.setup_dropped.Reads as controlbus-setup-setup-dropped
 
 pub control-Control-reset-once : Once control-Control-reset.Post (λ κ r s. r)
 control-Control-reset-once = once (λ κ a r s p. p)
@@ -98,11 +98,11 @@ controlbus-received-once = once (λ κ a r s p. same (p .state) (p .bytes))
 pub controlbus-out-token-once : Once controlbus-out-token.Post (λ κ r s. r)
 controlbus-out-token-once = once (λ κ a r s p. p)
 
-pub controlbus-judge-setup-once : Once controlbus-judge-setup.Post (λ κ r s. r)
-controlbus-judge-setup-once = once (λ κ a r s p. p)
+pub controlbus-setup-judge-setup-once : Once controlbus-setup-judge-setup.Post (λ κ r s. r)
+controlbus-setup-judge-setup-once = once (λ κ a r s p. p)
 
-pub controlbus-received-setup-once : Once controlbus-received-setup.Post (λ κ r s. both r (now (s .1 .0)))
-controlbus-received-setup-once = once (λ κ a r s p. same (p .state) (p .bytes))
+pub controlbus-setup-received-setup-once : Once controlbus-setup-received-setup.Post (λ κ r s. both r (now (s .1 .0)))
+controlbus-setup-received-setup-once = once (λ κ a r s p. same (p .state) (p .bytes))
 
-pub controlbus-setup-dropped-once : Once controlbus-setup-dropped.Post (λ κ r s. r)
-controlbus-setup-dropped-once = once (λ κ a r s p. p)
+pub controlbus-setup-setup-dropped-once : Once controlbus-setup-setup-dropped.Post (λ κ r s. r)
+controlbus-setup-setup-dropped-once = once (λ κ a r s p. p)

@@ -1,4 +1,4 @@
--- The theorems of the reader, each under its sentence; that its contract allows one answer is in Meaning.antt.
+-- The theorems of the reader, each under its sentence; that its contract allows one answer is in the crate once.
 -- Assumes nothing.
 use Prim.Native.Nat.{ℕ, _+_, _-_, _≤_, _<_}
 use mathlib.Core.Path.{_≡_, sym, _∙_}

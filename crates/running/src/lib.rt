@@ -1,5 +1,5 @@
 // Runs a trace from any state and place for as many records as fit the caller's buffer, one line each.
-// What is full leaves everything as it is, and the next call goes on. The definitions that the contract cites are in specs/.
+// A line that does not fit leaves everything as it is; a call with room for it goes on. The definitions that the contract cites are in specs/.
 ghost use mathlib.Core.Path.{_≡_};
 ghost use Prim.Native.Nat.{_≤_};
 ghost use lib.ListN.{length};
