@@ -18,7 +18,7 @@ use Rattle.state.specs.declared.Endpoint.{Endpoint}
 use Rattle.state.specs.declared.Wait.{Wait}
 use Rattle.state.specs.declared.Wait.the-variants as wait
 use Rattle.state.specs.declared.Chip.{Chip}
-use Rattle.state.specs.State.{senderAt, fifoOf}
+use Rattle.state.specs.State.{senderAt, fifoOf, zeroPlace, awaitingOnly}
 use Rattle.state.specs.Set.{withControl, withSender, withEvents, withPending, nakkedIn}
 use Rattle.tokens.specs.declared.Match.{Match}
 use Rattle.tokens.specs.declared.Match.the-variants.{Nobody, Takes}
@@ -29,14 +29,11 @@ use Rattle.answer.specs.Answer.{gives, silent, packet0, packetAt}
 
 -- something is awaited, nothing is held
 unfoldable pub awaiting : Wait → Chip → Chip
-awaiting w c = withPending (record { wait = w; holds = false; held = 0; flush = false }) c
+awaiting w c = withPending (awaitingOnly w) c
 
 -- "NAK and its NAKEV bit"
 unfoldable pub markedIn : FifoNumber → Chip → Chip
 markedIn n c = withEvents (nakkedIn n (c .events)) c
-
-abbrev pub zeroPlace : Endpoint
-zeroPlace = record { 0 = 0 }
 
 -- ---- IN
 

@@ -32,7 +32,7 @@ pub record Takes0 (f : Fifo0) (m : List ℕ) (r : Taken0) : Type 0 where
 pub record Canonical0 (f : Fifo0) : Type 0 where
   pub stands : f .received ≡ true → level (f .read) (f .write) ≢ 0
 
-second-false : (a b : Bool) → (a || b) ≡ false → b ≡ false
+pub second-false : (a b : Bool) → (a || b) ≡ false → b ≡ false
 second-false true b e = cc
 second-false false b e = e
 

@@ -7,7 +7,7 @@ use mathlib.Core.Path.{_≡_, refl, ap, _∙_}
 use mathlib.Core.Logic.{_≢_}
 use mathlib.Core.Bool.{false}
 use mathlib.Core.List.{List, [], _∷_, _++_, append-nil}
-use lib.ListN.{length, getD, set, length-set}
+use lib.ListN.{length, length-set}
 use lib.Seq.{getD-set-same, getD-set-other, append-snoc}
 use borrow.Author.Tests.{leb-false, lt-leb}
 use Rattle.ring.specs.Ring.{next, level, place, byteAt, full, store, storeAll, bytesFrom, contents}
@@ -24,6 +24,10 @@ size-small sixtyFour = omega arith
 pub place-small : {size : ℕ} → Size size → (counter : ℕ) → counter % size < size
 place-small eight counter = omega arith
 place-small sixtyFour counter = omega arith
+
+-- a counter is at level 0 from itself
+pub level-self : (n : ℕ) → level n n ≡ 0
+level-self n = omega arith
 
 -- the counters are bytes
 pub record Counters (read write : ℕ) : Type 0 where
@@ -136,31 +140,3 @@ module _ {size : ℕ} (z : Size size) (start : ℕ) where
         store-appends m read write b fits c (lt-leb size (level read write) (omega arith)),
         append-snoc,
       )
-
--- every number of the list is a byte's
-abbrev pub Bytes : List ℕ → Type 0
-Bytes m = (i : ℕ) → getD m i 0 < 256
-
--- stores of bytes leave bytes, and the contents are bytes
-pub set-bytes : (m : List ℕ) (p b : ℕ) → Bytes m → b < 256 → Bytes (set m p b)
-set-bytes [] p b hm hb i = hm i
-set-bytes (x ∷ m) zero b hm hb zero = hb
-set-bytes (x ∷ m) zero b hm hb (suc i) = hm (suc i)
-set-bytes (x ∷ m) (suc p) b hm hb zero = hm zero
-set-bytes (x ∷ m) (suc p) b hm hb (suc i) = set-bytes m p b (λ j. hm (suc j)) hb i
-
-pub storeAll-bytes : (start size counter : ℕ) (s m : List ℕ) → Bytes s → Bytes m → Bytes (storeAll start size counter s m)
-unfolding storeAll
-storeAll-bytes start size counter [] m hs hm = hm
-storeAll-bytes start size counter (b ∷ s) m hs hm =
-    let stored : _ = set-bytes m (place start size counter) b hm (hs zero) in
-    storeAll-bytes start size (next counter) s (store start size counter b m) (λ i. hs (suc i)) stored
-
-pub contents-bytes : (start size : ℕ) (m : List ℕ) (read write : ℕ) → Bytes m → Bytes (contents start size m read write)
-unfolding bytesFrom
-contents-bytes start size m read write hm = go read (level read write)
-  where
-    go : (c n : ℕ) → Bytes (bytesFrom start size m c n)
-    go c zero i = omega arith
-    go c (suc n) zero = hm (place start size c)
-    go c (suc n) (suc i) = go (next c) n i

@@ -16,15 +16,10 @@ use Rattle.window.specs.declared.Kind.{Kind}
 use Rattle.window.specs.declared.Kind.the-variants.{Control, Transmit, Receive}
 use Rattle.window.specs.Window.{sizeOf, indexOf, startOf, window}
 use Rattle.ring.specs.Ring.{next, level, place, byteAt, store, storeAll, bytesFrom, contents}
-use Rattle.contents.proofs.Ring.{Size, eight, sixtyFour, place-small, store-length, storeAll-length}
+use Rattle.contents.proofs.Ring.{Size, place-small, store-length, storeAll-length}
 
--- every kind has one of the two sizes
-pub size-of : (k : Kind) → Size (sizeOf k)
-size-of Control = eight
-size-of Transmit = sixtyFour
-size-of Receive = sixtyFour
-
-index-small : (n : FifoNumber) → indexOf n ≤ 2
+-- a FIFO's index
+pub index-small : (n : FifoNumber) → indexOf n ≤ 2
 unfolding indexOf
 index-small n =
     by-test (λ (i : ℕ). i ≤ 2) _ (λ _. omega arith) (λ _.

@@ -5,6 +5,7 @@ use mathlib.Core.Path.{_≡_}
 use mathlib.Core.Bool.{true}
 use mathlib.Core.List.{List}
 use Rattle.event.specs.declared.BusEndpoint.{BusEndpoint}
+use Rattle.event.specs.declared.Event.{Event}
 use Rattle.state.specs.State.{Model, reset}
 use Rattle.formed.specs.Formed.{wellFormed}
 use Rattle.typed.specs.Typed.{Bytes, Typed}
@@ -15,8 +16,8 @@ use Rattle.driver.specs.declared.Driver.{Driver}
 use Rattle.driver.specs.Registers.{written, seen}
 use Rattle.driver.specs.Driver.{started, offered, sendServed}
 use Rattle.receiving.specs.Receive.{receiveServed}
-use Rattle.driving.specs.Touches.{Touches, none, reads, writes}
-use Rattle.driving.proofs.Reached.{start-touches, offer-touches, send-touches, receive-touches}
+use Rattle.driving.specs.Touches.{Touches}
+use Rattle.driving.proofs.Reached.{touches-by, start-touches, offer-touches, send-touches, receive-touches}
 
 -- a state that is well formed, with arrays of their lengths and bytes below 256
 pub record Sound (m : Model) : Type 0 where
@@ -45,10 +46,9 @@ write-sound a v m b s =
     }
 
 -- Whatever the driver's accesses reach from a sound state is sound.
-pub touches-keep : {m n : Model} → Touches m n → Sound m → Sound n
-touches-keep none s = s
-touches-keep {m} (reads a r p) s = touches-keep p (read-sound a m s)
-touches-keep {m} (writes a v r b p) s = touches-keep p (write-sound a v m b s)
+pub touches-keep : {P : Event → Type 0} {m n : Model} → Touches P m n → Sound m → Sound n
+touches-keep =
+    touches-by (λ m n. Sound m → Sound n) (λ m s. s) (λ k l o x y s. y (x s)) (λ a m _ s. read-sound a m s) (λ a v m _ b s. write-sound a v m b s)
 
 -- A start makes a sound state, also one that is refused.
 pub start-sound : (a : ℕ) (e f : BusEndpoint) → Sound (started a e f .model)

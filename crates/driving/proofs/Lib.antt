@@ -2,5 +2,4 @@
 pub mod Reached
 pub mod Kept
 pub mod Refused
-pub mod Outcome
 pub mod Packet

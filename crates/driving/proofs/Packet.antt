@@ -11,7 +11,7 @@ use Rattle.choice.specs.Choice.{pick}
 use Rattle.choice.proofs.ByTest.{by-test}
 use Rattle.window.specs.declared.FifoNumber.{FifoNumber}
 use Rattle.window.specs.declared.Kind.the-variants.{Receive}
-use Rattle.window.specs.Window.{rxSize, startOf, indexOf}
+use Rattle.window.specs.Window.{rxSize, startOf, indexOf, numbered}
 use Rattle.ring.specs.Ring.{level}
 use Rattle.contents.proofs.Ring.{Counters, contents-none}
 use Rattle.contents.proofs.Receive.{takeRx-some}
@@ -19,7 +19,6 @@ use Rattle.rxfifo.specs.Receive.{rxContents, takeRx}
 use Rattle.receiver.specs.declared.Receiver.{Receiver}
 use Rattle.receiver.specs.Receiver.{resetReceiver, cleared, takeByte}
 use Rattle.state.specs.State.{Model, receiverAt}
-use Rattle.settings.specs.Settings.{numbered}
 use Rattle.reads.specs.Read.{readOf, receiverRead}
 use Rattle.typed.specs.Typed.{TypedReceiver}
 use Rattle.driver.specs.declared.Driver.{Driver}
@@ -60,7 +59,7 @@ rxd-held m s some =
     taken-first (numbered 1) (m .chip .receivers) (m .memory) (record { read-small = r .read-byte; write-small = r .write-byte }) some
 
 -- RXS leaves all.
-rxs-held : (m : Model) → held (seen 0x2E m) ≡ held m
+pub rxs-held : (m : Model) → held (seen 0x2E m) ≡ held m
 unfolding seen readOf receiverRead indexOf pick
 rxs-held m = cleared-first (numbered 1) (m .chip .receivers) (m .memory)
 
@@ -77,7 +76,7 @@ none-held : (m : Model) → received (m .chip) ≡ 0 → held m ≡ []
 none-held m e = contents-none (startOf Receive (numbered 1)) rxSize (m .memory) _ _ e
 
 -- what RXS showed still stands after the read
-shown-still : (m : Model) → value 0x2E m % 16 ≡ min (received (seen 0x2E m .chip)) 15
+pub shown-still : (m : Model) → value 0x2E m % 16 ≡ min (received (seen 0x2E m .chip)) 15
 shown-still m = level-shown m ∙ ap (λ (k : ℕ). min k 15) (sym (level-seen m))
 
 rounds-held : (most count : ℕ) (m : Model) → Sound m → received (m .chip) < most → count ≡ min (received (m .chip)) 15

@@ -10,7 +10,8 @@ use Rattle.state.specs.declared.Wait.the-variants.{Nothing, Handshake, Data, Se
 use Rattle.state.specs.declared.Pending.{Pending}
 use Rattle.state.specs.declared.Chip.{Chip}
 use Rattle.state.specs.State.{senderAt, receiverAt}
-use Rattle.settings.specs.Settings.{operational, numbered}
+use Rattle.settings.specs.Settings.{operational}
+use Rattle.window.specs.Window.{numbered}
 
 -- "at most one endpoint awaiting a handshake (0, 1, 3, 5) or data (0, 2, 4, 6; ..)": one at most, and not both, by the shape of `Wait`
 unfoldable pub sends : Endpoint → Bool

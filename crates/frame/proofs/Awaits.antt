@@ -1,4 +1,4 @@
--- After a bus event something is awaited only of the endpoint that took its token.
+-- After data, a host ACK or a timeout nothing is awaited.
 -- Assumes nothing.
 use Prim.Native.Nat.{ℕ}
 use mathlib.Core.Path.{_≡_, refl, sym, _∙_}
@@ -17,14 +17,12 @@ use Rattle.settings.specs.Settings.{operational}
 use Rattle.ends.specs.Ends.{ended}
 use Rattle.data.specs.Data.{dataIn}
 use Rattle.step.specs.Step.{dataStep, endStep, stepOf}
-use Rattle.frame.specs.Place.{Place, nobody, awaited}
-use Rattle.frame.specs.Owner.{dataOwner, isFor, next, acks}
+use Rattle.frame.specs.Place.{nobody}
+use Rattle.typed.specs.Next.{next}
+use Rattle.frame.specs.Owner.{dataOwner}
 use Rattle.frame.specs.Settings.{isAccess, isToken}
-use Rattle.frame.proofs.Waits.{overIn, ended-wait, quiet-wait, quiet-free}
+use Rattle.frame.proofs.Waits.{overIn, ended-wait, quiet-wait}
 use Rattle.frame.proofs.BusEvents.{Over, over, Changes, data-by}
-use Rattle.frame.proofs.Frame.{bus-frame}
-
--- ---- data, a host ACK, a timeout
 
 -- nobody's data is awaited only where nothing is
 data-none : (w : Wait) → dataOwner (overIn w) ≡ nobody → overIn w ≡ Nothing
@@ -49,8 +47,8 @@ data-over pid sound s c w q = data-by Ended c pid sound s (c .pending .wait) cha
           none = λ e. q ∙ data-none w (rw q at e);
           waits = λ h l. ended-by h l;
           control = λ own x e h l. ended-by h l;
-          sender = λ k own x e h l. ended-by h l;
-          receiver = λ k own x e h l. ended-by h l;
+          sender = λ k own x _ e h l. ended-by h l;
+          receiver = λ k own x _ e h l. ended-by h l;
         }
 
 -- After data, a host ACK or a timeout nothing is awaited.
@@ -66,21 +64,3 @@ wait-over (event.Data pid sound) s m t u on =
     rw on (data-over (eqb pid 1) (eqb sound 1) s (ended false (m .chip)) (m .chip .pending .wait) (ended-wait false (m .chip)))
 wait-over event.Ack s m t u on = rw on (quiet-wait true (m .chip))
 wait-over event.Timeout s m t u on = rw on (quiet-wait false (m .chip))
-
--- ---- tokens
-
-must : (b : Bool) → (b ≡ false → ⊥) → b ≡ true
-must true h = refl
-must false h = absurd {0} (h refl)
-
--- After a bus event in the operational state something is awaited only of the endpoint that took its token.
-pub wait-of-taker : (e : Event) (s : List ℕ) (m : Model) (p : Place) → isAccess e ≡ false → operational (m .chip) ≡ true
-    → awaited p (next e s m .chip) ≡ true → (isToken e ≡ true) × (isFor e (m .chip) p ≡ true)
-wait-of-taker e s m p t on yet =
-    (must (isToken e) (λ u. false≢true (sym (none u) ∙ yet)), must (isFor e (m .chip) p) (λ other. false≢true (sym (not-for other) ∙ yet)))
-  where
-    none : isToken e ≡ false → awaited p (next e s m .chip) ≡ false
-    none u = unfold awaited in (rw (wait-over e s m t u on) refl)
-
-    not-for : isFor e (m .chip) p ≡ false → awaited p (next e s m .chip) ≡ false
-    not-for other = bus-frame e s m p t on other .endpoint .awaits ∙ quiet-free p (acks e) (m .chip)

@@ -1,27 +1,22 @@
 -- Bytes stored in one place's window leave the window of every other place.
 -- Assumes nothing.
-use Prim.Native.Nat.{ℕ, _≤_}
+use Prim.Native.Nat.{ℕ}
 use native.Mathlib.Omega.{arith}
 use mathlib.Core.Path.{_≡_, sym}
 use mathlib.Core.Bool.{false, false≢true}
 use mathlib.Core.Logic.{_⊎_, inl, inr}
 use mathlib.Core.List.{List}
 use borrow.Author.Tests.{eqb-false}
-use Rattle.window.specs.declared.FifoNumber.{FifoNumber}
 use Rattle.window.specs.declared.Kind.the-variants.{Transmit, Receive}
 use Rattle.window.specs.Window.{indexOf, startOf, sizeOf}
-use Rattle.contents.proofs.Windows.{Apart, Same, Kept, windows-apart}
+use Rattle.contents.proofs.Windows.{index-small, Apart, Same, Kept, windows-apart}
 use Rattle.frame.specs.Place.{Place, zero, sends, receives, at, windowOf, bytesAt}
-use Rattle.frame.proofs.Owners.{by-index}
 
 abbrev start : Place → ℕ
 start p = startOf (windowOf p .kind) (windowOf p .number)
 
 abbrev size : Place → ℕ
 size p = sizeOf (windowOf p .kind)
-
-index-small : (n : FifoNumber) → indexOf n ≤ 2
-index-small n = by-index (λ (i : ℕ). i ≤ 2) n (omega arith) (omega arith) (omega arith)
 
 not-same : (a i b j : ℕ) → Same a i b j ⊎ Apart a i b j → (a ≡ b → ⊥) → Apart a i b j
 not-same a i b j (inl s) h = absurd {0} (h (s .0))

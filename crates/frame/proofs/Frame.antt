@@ -26,8 +26,9 @@ use Rattle.settings.specs.Settings.{operational}
 use Rattle.ends.specs.Ends.{ended}
 use Rattle.data.specs.Data.{dataNowBytes}
 use Rattle.step.specs.Step.{readStep, writeStep, inStep, outStep, setupStep, dataStep, dataStepBytes, endStep, stepOf, stepBytes}
+use Rattle.typed.specs.Next.{next}
 use Rattle.frame.specs.Place.{Place, zero, sends, receives, State, stateAt, bytesAt, Owner, nobody, isOwner, Same}
-use Rattle.frame.specs.Owner.{dataOwner, owner, isFor, cut, exempt, next, acks, quieted}
+use Rattle.frame.specs.Owner.{dataOwner, owner, isFor, cut, exempt, acks, quieted}
 use Rattle.frame.specs.Settings.{isAccess}
 use Rattle.frame.proofs.Parts.{stays, stays-then}
 use Rattle.frame.proofs.Registers.{read-stays, write-stays, write-bytes}

@@ -4,6 +4,7 @@ pub mod Parts
 pub mod Bytes
 pub mod Accesses
 pub mod Registers
+pub mod Epcs
 pub mod BusEvents
 pub mod Waits
 pub mod Taking

@@ -1,30 +1,25 @@
 -- Who takes a token, by who matches it: the lowest-numbered. So the endpoints of TXFIFO1 and RXFIFO1 take every token of their bus endpoint, but
 -- for bus endpoint 0, at the chip's own address, and no other.
 -- Assumes nothing.
-use Prim.Native.Nat.{ℕ, _+_, _*_, _≤_, _<_}
-use native.Mathlib.Omega.{arith}
-use mathlib.Core.Path.{_≡_, refl, sym, ap, _∙_}
-use mathlib.Core.Bool.{Bool, true, false, _&&_, _||_, not, false≢true}
+use Prim.Native.Nat.{ℕ, _+_, _*_}
+use mathlib.Core.Path.{_≡_, refl, ap, _∙_}
+use mathlib.Core.Bool.{Bool, true, false, _&&_, _||_, not}
 use lib.Dec.{eqb}
 use lib.Count.{trailingZeros}
 use Rattle.choice.specs.Choice.{pick}
-use Rattle.window.specs.Window.{indexOf}
+use Rattle.window.specs.Window.{indexOf, numbered}
 use Rattle.event.specs.declared.BusEndpoint.{BusEndpoint}
 use Rattle.event.specs.declared.Event.the-variants as event
 use Rattle.epc.specs.Bits.{bitOf}
 use Rattle.epc.specs.Epc.{takes}
-use Rattle.state.specs.declared.Endpoint.{Endpoint}
 use Rattle.state.specs.declared.Chip.{Chip}
 use Rattle.state.specs.State.{senderAt, receiverAt}
 use Rattle.settings.specs.Settings.{operational}
 use Rattle.tokens.specs.declared.Match.{Match}
 use Rattle.tokens.specs.declared.Match.the-variants.{Nobody, Takes}
-use Rattle.tokens.specs.Tokens.{own, zeroTakes, senderTakes, receiverTakes, numbered, inMask, outMask, winner}
-use Rattle.frame.specs.Place.{Place, sends, receives, sendingPlace, receivingPlace, Owner, nobody, isOwner}
+use Rattle.tokens.specs.Tokens.{own, zeroTakes, senderTakes, receiverTakes, inMask, outMask, winner}
+use Rattle.frame.specs.Place.{endpoint, Place, sends, receives, sendingPlace, receivingPlace, Owner, nobody, isOwner}
 use Rattle.frame.specs.Owner.{inOwner, outOwner, owner, isFor}
-
-abbrev pub endpoint : ℕ → Endpoint
-endpoint n = record { 0 = n }
 
 -- "the lowest-numbered of all that match takes the token": of endpoint 0 and three others
 abbrev pub lowestOf : ℕ → ℕ → ℕ → Bool → Bool → Bool → Bool → Match
@@ -56,27 +51,7 @@ bits false false true false = (refl, refl)
 bits false false false true = (refl, refl)
 bits false false false false = (refl, refl)
 
--- where the first of the three takes it, endpoint 0 does not match and that one does
-numberOf : Match → ℕ
-numberOf Nobody = 7
-numberOf (Takes e) = e .0
-
-first-only : (i j k : ℕ) → 1 ≤ i → i < j → j < k → (o x y z : Bool) → lowestOf i j k o x y z ≡ Takes (endpoint i) → (o ≡ false) × (x ≡ true)
-unfolding numberOf
-first-only i j k l m n true x y z e = absurd {0} (omega (arith, ap numberOf e))
-first-only i j k l m n false true y z e = (refl, refl)
-first-only i j k l m n false false true z e = absurd {0} (omega (arith, ap numberOf e))
-first-only i j k l m n false false false true e = absurd {0} (omega (arith, ap numberOf e))
-first-only i j k l m n false false false false e = (refl, cc)
-
 -- n: bus endpoint 0; w: the chip's own address; d: address 0 with DEF; t: EP_EN, no ISO, and that bus endpoint
-own-only : (n w d t : Bool) → (n && (w || d)) ≡ false → (w && t) ≡ true → (w ≡ true) × (t ≡ true) × (n ≡ false)
-own-only true true d t e f = absurd {0} (false≢true (sym e))
-own-only true false d t e f = absurd {0} (false≢true f)
-own-only false true d true e f = (refl, refl, refl)
-own-only false true d false e f = absurd {0} (false≢true f)
-own-only false false d t e f = absurd {0} (false≢true f)
-
 own-is : (n w d t : Bool) → (not (n && (w || d)) && (w && t)) ≡ (w && t && not n)
 own-is true true d true = refl
 own-is true true d false = refl
@@ -127,29 +102,11 @@ module _ (a : ℕ) (e : BusEndpoint) (c : Chip) where
   unfolding zeroTakes senderTakes
   in-first w t n = in-lowest ∙ simp (n, w, t)
 
-  -- And no other.
-  pub in-first-only : winner (inMask a e c) ≡ Takes (endpoint 1)
-      → (own a c ≡ true) × (takes (senderAt (numbered 1) c .epc) e ≡ true) × (eqb (e .0) 0 ≡ false)
-  unfolding zeroTakes senderTakes
-  in-first-only q =
-      let f : (zeroTakes a e c ≡ false) × (senderTakes a e (numbered 1) c ≡ true) =
-      first-only 1 3 5 (omega arith) (omega arith) (omega arith) _ _ _ _ (sym in-lowest ∙ q) in
-      own-only (eqb (e .0) 0) (own a c) (eqb a 0 && c .control .def) (takes (senderAt (numbered 1) c .epc) e) (f .0) (f .1)
-
   -- The endpoint of RXFIFO1 takes every OUT for its bus endpoint, but for bus endpoint 0, at the chip's own address, whatever the others are.
   pub out-first : own a c ≡ true → takes (receiverAt (numbered 1) c .epc) e ≡ true → eqb (e .0) 0 ≡ false
       → winner (outMask a e c) ≡ Takes (endpoint 2)
   unfolding zeroTakes receiverTakes
   out-first w t n = out-lowest ∙ simp (n, w, t)
-
-  -- And no other.
-  pub out-first-only : winner (outMask a e c) ≡ Takes (endpoint 2)
-      → (own a c ≡ true) × (takes (receiverAt (numbered 1) c .epc) e ≡ true) × (eqb (e .0) 0 ≡ false)
-  unfolding zeroTakes receiverTakes
-  out-first-only q =
-      let f : (zeroTakes a e c ≡ false) × (receiverTakes a e (numbered 1) c ≡ true) =
-      first-only 2 4 6 (omega arith) (omega arith) (omega arith) _ _ _ _ (sym out-lowest ∙ q) in
-      own-only (eqb (e .0) 0) (own a c) (eqb a 0 && c .control .def) (takes (receiverAt (numbered 1) c .epc) e) (f .0) (f .1)
 
   -- The same of the event: it is for that endpoint exactly then, in the operational state.
   pub in-for-first : isFor (event.In a e) c (sends (numbered 1))

@@ -11,9 +11,8 @@ use Rattle.choice.proofs.ByTest.{by-test}
 use Rattle.window.specs.declared.FifoNumber.{FifoNumber}
 use Rattle.window.specs.Window.{indexOf}
 use Rattle.state.specs.declared.Endpoint.{Endpoint}
-use Rattle.state.specs.State.{fifoOf}
+use Rattle.state.specs.State.{fifoOf, zeroPlace}
 use Rattle.slot.specs.Slot.{slotOf, sending}
-use Rattle.settings.specs.Settings as settings
 use Rattle.frame.specs.Place.{Place, zero, sends, receives, at, sendingPlace, receivingPlace, one}
 use Rattle.frame.specs.Owner.{slotPlace, registerOwner}
 
@@ -35,7 +34,7 @@ module _ (a : ℕ) where
   slot-receives e = rw e
 
 -- a FIFO number has one of three indices
-pub by-index : (P : ℕ → Type 0) (k : FifoNumber) → P 0 → P 1 → P 2 → P (indexOf k)
+by-index : (P : ℕ → Type 0) (k : FifoNumber) → P 0 → P 1 → P 2 → P (indexOf k)
 unfolding indexOf
 by-index P k x y z = by-test P _ (λ _. x) (λ _. by-test P _ (λ _. y) (λ _. z))
 
@@ -61,7 +60,7 @@ sending-at p k other = rw (ne-eqb (1 + 2 * indexOf k) 0 (omega arith)) (go p oth
     go (sends n) h = rw (sending-index k) h
     go (receives n) h = refl
 
-pub sending-zero : (p : Place) → at zero p ≡ false → at (sendingPlace settings.zero) p ≡ false
+pub sending-zero : (p : Place) → at zero p ≡ false → at (sendingPlace zeroPlace) p ≡ false
 unfolding sendingPlace pick
 sending-zero p other = other
 

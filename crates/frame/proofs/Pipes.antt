@@ -11,19 +11,19 @@ use borrow.Author.Tests.{leb-true, eqb-true}
 use Rattle.choice.specs.Choice.{pick}
 use Rattle.choice.proofs.ByTest.{by-test}
 use Rattle.window.specs.declared.FifoNumber.{FifoNumber}
-use Rattle.window.specs.Window.{indexOf}
+use Rattle.window.specs.Window.{indexOf, numbered}
 use Rattle.event.specs.declared.Event.{Event}
 use Rattle.event.specs.declared.Event.the-variants as event
 use Rattle.state.specs.State.{Model}
 use Rattle.slot.specs.Slot.{slotOf}
-use Rattle.tokens.specs.Tokens.{numbered}
 use Rattle.reads.specs.Read.{senderRead, receiverRead, readOf}
 use Rattle.writes.specs.Write.{senderWrite, senderBytes, receiverWrite, writeOf, bytesOf}
 use Rattle.step.specs.Step.{readStep, writeStep, stepOf, stepBytes}
+use Rattle.typed.specs.Next.{next}
 use Rattle.frame.specs.Place as place
 use Rattle.frame.specs.Place.{Place, at, Owner, one, isOwner, Same}
-use Rattle.frame.specs.Owner.{slotPlace, registerOwner, owner, resets, exempt, next}
-use Rattle.frame.specs.Settings.{isSetting, isAccess}
+use Rattle.frame.specs.Owner.{slotPlace, registerOwner, owner, resets, exempt}
+use Rattle.frame.specs.Settings.{isSetting, sets, isAccess}
 use Rattle.frame.specs.Driver.{Piped, endpoint1, endpoint2, reserved}
 use Rattle.frame.proofs.Frame.{same, frame}
 use Rattle.frame.proofs.Settled.{or-no, unset}
@@ -90,10 +90,21 @@ at-address P a inside outside = go (decLe 0x28 a) (decLe a 0x2F)
     go (yes low) (no high) = outside (λ l h. high h)
     go (no low) h = outside (λ l _. low l)
 
--- a write that is not reserved is of none of MCNTRL, FAR and NFSR
 first-of : (a b c d e f : Bool) → (a || b || c || d || e || f) ≡ false → a ≡ false
 first-of a b c d e f h =
     or-no a b (or-no (a || b) c (or-no (a || b || c) d (or-no (a || b || c || d) e (or-no (a || b || c || d || e) f h .0) .0) .0) .0) .0
+
+-- An event that is not reserved is no write of MCNTRL, FAR or NFSR.
+pub unreserved-sets : (e : Event) → reserved e ≡ false → sets e ≡ false
+unfolding reserved sets
+unreserved-sets (event.Read a) ok = refl
+unreserved-sets (event.Write a v) ok = first-of _ _ _ _ _ _ ok
+unreserved-sets (event.In a e) ok = refl
+unreserved-sets (event.Out a e) ok = refl
+unreserved-sets (event.Setup a e) ok = refl
+unreserved-sets (event.Data pid sound) ok = refl
+unreserved-sets event.Ack ok = refl
+unreserved-sets event.Timeout ok = refl
 
 no-reset : (v a : ℕ) → isSetting a ≡ false → resets a v ≡ false
 no-reset v a ok = simp (unset a ok .0, unset a ok .2)
@@ -126,8 +137,8 @@ module _ (s : List ℕ) (m : Model) (p : Place) (d : Piped p) where
   read-away a outside ok = frame (event.Read a) s m p (owner-later p d a outside) refl
 
   write-away : (v a : ℕ) → (0x28 ≤ a → a ≤ 0x2F → ⊥) → WriteKeeps v a
-  unfolding owner exempt reserved
-  write-away v a outside ok = frame (event.Write a v) s m p (owner-later p d a outside) (no-reset v a (first-of _ _ _ _ _ _ ok))
+  unfolding owner exempt sets
+  write-away v a outside ok = frame (event.Write a v) s m p (owner-later p d a outside) (no-reset v a (unreserved-sets (event.Write a v) ok))
 
 -- A register access that is not reserved leaves the endpoints of TXFIFO1 and RXFIFO1 as they were.
 pub unreserved-keeps : (e : Event) (s : List ℕ) (m : Model) (p : Place) → Piped p → isAccess e ≡ true → reserved e ≡ false → Same p m (next e s m)

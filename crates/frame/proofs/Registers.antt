@@ -16,10 +16,9 @@ use Rattle.state.specs.declared.Wait.{Wait}
 use Rattle.state.specs.declared.Wait.the-variants.{Nothing, Handshake, Data, Setup}
 use Rattle.state.specs.declared.Pending.{Pending}
 use Rattle.state.specs.declared.Chip.{Chip}
-use Rattle.state.specs.State.{senderAt}
+use Rattle.state.specs.State.{senderAt, zeroPlace}
 use Rattle.state.specs.Set.{withControl, withMasks, withPending}
 use Rattle.slot.specs.Slot.{slotOf}
-use Rattle.settings.specs.Settings as settings
 use Rattle.settings.specs.Settings.{awaits, awaitsIn, farWrite, nfsrWrite}
 use Rattle.reads.specs.Read.{readOf}
 use Rattle.writes.specs.Write.{controlBytes, senderBytes, endpointBytes, writeOf, bytesOf}
@@ -58,7 +57,7 @@ changes p o c other =
       receiver = λ k own x. receiver-stays p c k x (rw own at other);
       held0 = λ own x h t same.
           let z : at zero p ≡ false = rw own at other in
-          stays-then p (control-stays p c x z) (held-stays p (withControl x c) settings.zero h t same (sending-zero p z));
+          stays-then p (control-stays p c x z) (held-stays p (withControl x c) zeroPlace h t same (sending-zero p z));
       held = λ k own h t same. held-stays p c _ h t same (sending-at p k (rw own at other));
     }
 

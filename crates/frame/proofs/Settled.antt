@@ -1,26 +1,28 @@
--- NFSR, AD_EN and the address stay at every event but a write of MCNTRL, FAR or NFSR, and what is awaited stays at every other register access.
+-- NFSR, AD_EN and the address stay at every event but a write of MCNTRL, FAR or NFSR, what is awaited at every other register access, and the
+-- EPCs at every bus event.
 -- Assumes nothing.
 use Prim.Native.Nat.{ℕ}
 use mathlib.Core.Path.{_≡_, refl, sym, _∙_}
 use mathlib.Core.Bool.{Bool, true, false, _||_, false≢true}
 use mathlib.Core.List.{List}
 use lib.Dec.{eqb}
-use Rattle.choice.proofs.ByTest.{by-test}
 use Rattle.event.specs.declared.Event.{Event}
 use Rattle.event.specs.declared.Event.the-variants as event
 use Rattle.state.specs.declared.Pending.{Pending}
 use Rattle.state.specs.declared.Chip.{Chip}
 use Rattle.state.specs.State.{Model}
 use Rattle.tokens.specs.Tokens.{inMask, outMask, winner}
-use Rattle.answer.specs.declared.Out.{Out}
 use Rattle.ends.specs.Ends.{ended}
-use Rattle.step.specs.Step.{quiet, readStep, writeStep, inStep, outStep, setupStep, dataStep, endStep, stepOf}
+use Rattle.step.specs.Step.{quiet, readStep, writeStep, stepOf}
+use Rattle.typed.specs.Next.{next}
+use Rattle.typed.proofs.Steps.{Hears, step-by}
 use Rattle.frame.specs.Place.{Owner}
-use Rattle.frame.specs.Owner.{registerOwner, next}
-use Rattle.frame.specs.Settings.{Settled, Untouched, isSetting, sets, isAccess}
+use Rattle.frame.specs.Owner.{registerOwner}
+use Rattle.frame.specs.Settings.{Settled, Epcs, Configured, Untouched, isSetting, sets, isAccess}
 use Rattle.frame.proofs.Accesses as accesses
 use Rattle.frame.proofs.BusEvents as bus
-use Rattle.frame.proofs.Matching.{kept, settled-then, ended-looks, quiet-looks}
+use Rattle.frame.proofs.Epcs.{epcs-then, alike, sender-epcs, receiver-epcs}
+use Rattle.frame.proofs.Matching.{kept, configured-then, ended-looks, quiet-looks}
 
 -- ---- register accesses
 
@@ -67,44 +69,46 @@ access-keeps-settings event.Timeout s m t ok = absurd {0} (false≢true t)
 
 -- ---- bus events
 
-heard : (o : Owner) (L : Pending → Type 0) (c : Chip) → bus.Changes (Settled c) o L c
+unheard : (c : Chip) → Configured c c
+unheard c = record { settled = kept c _ _ _ _ _; epcs = alike c c refl refl }
+
+heard : (o : Owner) (L : Pending → Type 0) (c : Chip) → bus.Changes (Configured c) o L c
 heard o L c =
     record {
-      none = λ _. kept c _ _ _ _ _;
-      waits = λ h l. kept c _ _ _ _ _;
-      control = λ own x e h l. kept c _ _ _ _ _;
-      sender = λ k own x e h l. kept c _ _ _ _ _;
-      receiver = λ k own x e h l. kept c _ _ _ _ _;
+      none = λ _. unheard c;
+      waits = λ h l. record { settled = kept c _ _ _ _ _; epcs = alike c _ refl refl };
+      control = λ own x e h l. record { settled = kept c _ _ _ _ _; epcs = alike c _ refl refl };
+      sender = λ k own x same e h l. beside _ (kept c _ _ _ _ _) refl refl (sender-epcs c k x same);
+      receiver = λ k own x same e h l. beside _ (kept c _ _ _ _ _) refl refl (receiver-epcs c k x same);
     }
+  where
+    beside : {n : Chip} (r : Chip) → Settled c r → r .senders ≡ n .senders → r .receivers ≡ n .receivers → Epcs c n → Configured c r
+    beside {n} r s e f k = record { settled = s; epcs = epcs-then c n r k (alike n r e f) }
 
+-- after the end of a wait
 module _ (c : Chip) where
-  abbrev After : Out → Type 0
-  After o = Settled c (o .chip)
+  abbrev q : Chip
+  q = quiet false c
 
-  -- after the end of a wait
-  later : (n : Chip) → Settled (quiet false c) n → Settled c n
-  later n h = settled-then c (quiet false c) n (quiet-looks false c .settled) h
+  later : (n : Chip) → Configured q n → Configured c n
+  later n h = configured-then c q n (quiet-looks false c .same) h
 
--- Every bus event leaves NFSR, AD_EN and the address.
-pub bus-keeps-settings : (e : Event) (s : List ℕ) (m : Model) → isAccess e ≡ false → Settled (m .chip) (next e s m .chip)
-unfolding isAccess stepOf inStep outStep setupStep dataStep endStep
-bus-keeps-settings (event.Read a) s m t = absurd {0} (false≢true (sym t))
-bus-keeps-settings (event.Write a v) s m t = absurd {0} (false≢true (sym t))
-bus-keeps-settings (event.In a e) s m t =
-    let q : Chip = quiet false (m .chip) in
-    by-test (After (m .chip)) _ (λ _. later (m .chip) _ (bus.in-by (Settled q) q (winner (inMask a e q)) (heard _ _ q))) (λ _. kept (m .chip) _ _ _ _ _)
-bus-keeps-settings (event.Out a e) s m t =
-    let q : Chip = quiet false (m .chip) in
-    by-test (After (m .chip)) _ (λ _. later (m .chip) _ (bus.out-by (Settled q) q (winner (outMask a e q)) (heard _ _ q))) (λ _. kept (m .chip) _ _ _ _ _)
-bus-keeps-settings (event.Setup a e) s m t =
-    let q : Chip = quiet false (m .chip) in
-    by-test (After (m .chip)) _ (λ _. later (m .chip) _ (bus.setup-by (Settled q) q a e (heard _ _ q))) (λ _. kept (m .chip) _ _ _ _ _)
-bus-keeps-settings (event.Data pid sound) s m t =
-    let x : Chip = ended false (m .chip) in
-    by-test (After (m .chip)) _
-    (λ _.
-    settled-then (m .chip) x _ (ended-looks false (m .chip) (m .chip .pending .wait) .settled)
-    (bus.data-by (Settled x) x (eqb pid 1) (eqb sound 1) s (x .pending .wait) (heard _ _ x)))
-    (λ _. kept (m .chip) _ _ _ _ _)
-bus-keeps-settings event.Ack s m t = by-test (After (m .chip)) _ (λ _. quiet-looks true (m .chip) .settled) (λ _. kept (m .chip) _ _ _ _ _)
-bus-keeps-settings event.Timeout s m t = by-test (After (m .chip)) _ (λ _. quiet-looks false (m .chip) .settled) (λ _. kept (m .chip) _ _ _ _ _)
+  hears : Hears (Configured c) c
+  hears =
+      record {
+        none = unheard c;
+        in-token = λ _ a e. later _ (bus.in-by (Configured q) q (winner (inMask a e q)) (heard _ _ q));
+        out-token = λ _ a e. later _ (bus.out-by (Configured q) q (winner (outMask a e q)) (heard _ _ q));
+        setup-token = λ _ a e. later _ (bus.setup-by (Configured q) q a e (heard _ _ q));
+        data-packet = λ _ pid sound s.
+            let x : Chip = ended false c in
+            configured-then c x _ (ended-looks false c .same) (bus.data-by (Configured x) x pid sound s (x .pending .wait) (heard _ _ x));
+        end = λ _ acked. quiet-looks acked c .same;
+      }
+
+-- Every bus event leaves NFSR, AD_EN, the address and every EPC.
+pub bus-keeps-settings : (e : Event) (s : List ℕ) (m : Model) → isAccess e ≡ false → Configured (m .chip) (next e s m .chip)
+unfolding isAccess
+bus-keeps-settings e s m t =
+    step-by (Configured (m .chip)) (m .chip) (hears (m .chip)) e s (m .memory)
+    (λ a q. absurd {0} (false≢true (sym (rw q at t)))) (λ a v q. absurd {0} (false≢true (sym (rw q at t))))

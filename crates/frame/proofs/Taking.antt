@@ -47,8 +47,8 @@ module _ (p : Place) (c : Chip) (free : awaited p c ≡ false) (o : Owner) (othe
         none = λ _. stays p c;
         waits = λ h l. free-by p c (withPending h c) (state-pending c p h) free (ok h l);
         control = λ own x e h l. left (withControl x c) e h l (state-control c p x (rw own at other));
-        sender = λ k own x e h l. left (withSender k x c) e h l (state-sender c p k x (rw own at other));
-        receiver = λ k own x e h l. left (withReceiver k x c) e h l (state-receiver c p k x (rw own at other));
+        sender = λ k own x _ e h l. left (withSender k x c) e h l (state-sender c p k x (rw own at other));
+        receiver = λ k own x _ e h l. left (withReceiver k x c) e h l (state-receiver c p k x (rw own at other));
       }
     where
       left : (n : Chip) (e : Events) (h : Pending) → L h → stateAt p n ≡ stateAt p c → Stays p c (withPending h (withEvents e n))

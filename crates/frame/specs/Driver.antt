@@ -3,7 +3,7 @@ use mathlib.Core.Bool.{Bool, false, _||_}
 use lib.Dec.{eqb}
 use Rattle.event.specs.declared.Event.{Event}
 use Rattle.event.specs.declared.Event.the-variants as event
-use Rattle.tokens.specs.Tokens.{numbered}
+use Rattle.window.specs.Window.{numbered}
 use Rattle.frame.specs.Place.{Place, sends, receives}
 use Rattle.frame.specs.Settings.{isSetting}
 

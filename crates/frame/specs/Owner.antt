@@ -1,7 +1,6 @@
 -- Which endpoint an event is for, and the events that reach every endpoint, or end what another one awaits.
 use Prim.Native.Nat.{ℕ, _%_}
 use mathlib.Core.Bool.{Bool, true, false, _&&_, _||_, not}
-use mathlib.Core.List.{List}
 use lib.Dec.{eqb, leb}
 use Rattle.choice.specs.Choice.{pick}
 use Rattle.event.specs.declared.Event.{Event}
@@ -16,7 +15,7 @@ use Rattle.settings.specs.Settings.{operational}
 use Rattle.tokens.specs.declared.Match.{Match}
 use Rattle.tokens.specs.declared.Match.the-variants.{Nobody, Takes}
 use Rattle.tokens.specs.Tokens.{zeroTakes, inMask, outMask, winner}
-use Rattle.step.specs.Step.{quiet, stepOf, stepBytes}
+use Rattle.step.specs.Step.{quiet}
 use Rattle.frame.specs.Place.{Place, zero, sends, receives, sendingPlace, receivingPlace, Owner, nobody, one, isOwner, awaited}
 
 -- "20 EPC0 .. 27 RXC0"; "EPC1 to EPC6 at 28, 2C .. 3C .. The next three addresses are TXD, TXS, TXC for 1, 3, 5 and RXD, RXS, RXC for 2, 4, 6"
@@ -79,11 +78,7 @@ exempt (event.Data pid sound) c p = cut c p
 exempt event.Ack c p = cut c p
 exempt event.Timeout c p = cut c p
 
--- the whole state after an event with its payload
-abbrev pub next : Event → List ℕ → Model → Model
-next e s m = record { chip = stepOf e s (m .chip) (m .memory) .chip; memory = stepBytes e s (m .chip) (m .memory) }
-
--- and after no more than the end of what was awaited, by an ACK or not
+-- by an ACK or not
 abbrev pub acks : Event → Bool
 acks (event.Read a) = false
 acks (event.Write a v) = false
@@ -94,5 +89,6 @@ acks (event.Data pid sound) = false
 acks event.Ack = true
 acks event.Timeout = false
 
+-- the whole state after no more than the end of what was awaited
 abbrev pub quieted : Event → Model → Model
 quieted e m = record { chip = quiet (acks e) (m .chip); memory = m .memory }

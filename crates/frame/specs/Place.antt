@@ -18,6 +18,9 @@ use Rattle.state.specs.declared.Wait.the-variants.{Nothing, Handshake, Data, Se
 use Rattle.state.specs.declared.Chip.{Chip}
 use Rattle.state.specs.State.{Model, senderAt, receiverAt, fifoOf}
 
+abbrev pub endpoint : ℕ → Endpoint
+endpoint n = record { 0 = n }
+
 -- endpoint 0; the one that sends from TXFIFO1 to 3; the one that receives into RXFIFO1 to 3
 pub data Place : Type 0 where
   zero : Place

@@ -1,11 +1,13 @@
--- NFSR and FAR, what is awaited, and the events that may change them.
+-- NFSR, FAR and the EPCs, what is awaited, and the events that may change them.
 use Prim.Native.Nat.{ℕ}
 use mathlib.Core.Path.{_≡_}
 use mathlib.Core.Bool.{Bool, true, false, _||_}
 use lib.Dec.{eqb}
 use Rattle.event.specs.declared.Event.{Event}
 use Rattle.event.specs.declared.Event.the-variants as event
+use Rattle.window.specs.declared.FifoNumber.{FifoNumber}
 use Rattle.state.specs.declared.Chip.{Chip}
+use Rattle.state.specs.State.{senderAt, receiverAt}
 
 -- NFSR, AD_EN and the address are as they were
 pub record Settled (c c′ : Chip) : Type 0 where
@@ -13,7 +15,17 @@ pub record Settled (c c′ : Chip) : Type 0 where
   pub aden : c′ .aden ≡ c .aden
   pub address : c′ .address ≡ c .address
 
--- and so is what is awaited
+-- every EPC is as it was
+pub record Epcs (c c′ : Chip) : Type 0 where
+  pub senders : (n : FifoNumber) → senderAt n c′ .epc ≡ senderAt n c .epc
+  pub receivers : (n : FifoNumber) → receiverAt n c′ .epc ≡ receiverAt n c .epc
+
+-- both
+pub record Configured (c c′ : Chip) : Type 0 where
+  pub settled : Settled c c′
+  pub epcs : Epcs c c′
+
+-- NFSR, AD_EN, the address and what is awaited are as they were
 pub record Untouched (c c′ : Chip) : Type 0 where
   pub settled : Settled c c′
   pub wait : c′ .pending .wait ≡ c .pending .wait

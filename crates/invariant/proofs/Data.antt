@@ -4,23 +4,19 @@ use Prim.Native.Nat.{ℕ}
 use mathlib.Core.Bool.{Bool, true}
 use mathlib.Core.List.{List}
 use lib.ListN.{length}
-use Rattle.choice.proofs.ByTest.{by-test}
 use Rattle.window.specs.declared.FifoNumber.{FifoNumber}
 use Rattle.window.specs.Window.{fifo0, indexOf}
 use Rattle.verdict.specs.declared.Judged.{Judged}
-use Rattle.verdict.specs.declared.Judged.the-variants as judged
 use Rattle.receiver.specs.Receiver as receiver
 use Rattle.controlbus.specs.Bus as zero
 use Rattle.controlbus.specs.Setup as setup
 use Rattle.kept.proofs.Receiver as kept-receiver
 use Rattle.kept.proofs.ControlBus as kept-bus
-use Rattle.state.specs.declared.Endpoint.{Endpoint}
-use Rattle.state.specs.declared.Wait.{Wait}
-use Rattle.state.specs.declared.Wait.the-variants.{Nothing, Handshake, Data, Setup}
 use Rattle.state.specs.declared.Chip.{Chip}
-use Rattle.state.specs.State.{receiverAt, fifoOf}
-use Rattle.data.specs.Data.{markedOut, overrun, judgedAt, dataZero, dataReceiver, dataSetup, dataAt, dataIn, dataNow}
+use Rattle.state.specs.State.{receiverAt}
+use Rattle.data.specs.Data.{markedOut, overrun, judgedAt, dataZero, dataReceiver, dataSetup, dataNow}
 use Rattle.typed.specs.Typed.{TypedChip}
+use Rattle.typed.proofs.Steps.{judged-by, data-by}
 use Rattle.invariant.proofs.Facts.{Facts, with-control-well, with-receiver-well, with-events-well}
 use Rattle.invariant.proofs.Registers.{counters0, counters-rx}
 use Rattle.invariant.proofs.Ends.{idled-facts}
@@ -37,11 +33,7 @@ module _ (n : Chip) (f : Facts true n) where
   overrun-facts k = with-events-well true n f _
 
   judged-at-facts : (j : Judged) (k : FifoNumber) → Gives (judgedAt j k n)
-  judged-at-facts judged.Silence k = f
-  judged-at-facts judged.Nak k = marked-out-facts k
-  judged-at-facts judged.Stall k = f
-  judged-at-facts judged.Overrun k = overrun-facts k
-  judged-at-facts judged.Ack k = f
+  judged-at-facts j k = judged-by (Facts true) n f j k (marked-out-facts k) (overrun-facts k)
 
 module _ (pid sound : Bool) (c : Chip) (t : TypedChip c) (f : Facts true c) (s : List ℕ) where
   data-zero-facts : Gives (dataZero pid sound c s)
@@ -62,16 +54,6 @@ module _ (pid sound : Bool) (c : Chip) (t : TypedChip c) (f : Facts true c) (s :
       let z : _ = kept-bus.received-setup-keeps (c .control) (f .control) (counters0 c t) pid sound s in
       judged-at-facts _ (idled-facts true _ (with-control-well true c f _ z)) (setup.judgeSetup pid sound (length s) (c .control)) fifo0
 
-  data-at-facts : (e : Endpoint) → Gives (dataAt e pid sound c s)
-  unfolding dataAt
-  data-at-facts e = by-test Gives _ (λ _. data-zero-facts) (λ _. data-receiver-facts (fifoOf e))
-
-  data-in-facts : (w : Wait) → Gives (dataIn w pid sound c s)
-  data-in-facts Nothing = f
-  data-in-facts (Handshake e) = f
-  data-in-facts (Data e) = data-at-facts e
-  data-in-facts Setup = data-setup-facts
-
   -- After data, awaited or not.
   pub data-now-facts : Gives (dataNow pid sound c s)
-  data-now-facts = data-in-facts (c .pending .wait)
+  data-now-facts = data-by (Facts true) c f pid sound s data-zero-facts data-receiver-facts data-setup-facts

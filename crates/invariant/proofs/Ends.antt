@@ -10,13 +10,11 @@ use Rattle.control.specs.declared.Control.{Control}
 use Rattle.kept.proofs.Sender as kept-sender
 use Rattle.kept.proofs.Control as kept-control
 use Rattle.kept.proofs.ControlBus as kept-bus
-use Rattle.state.specs.declared.Endpoint.{Endpoint}
-use Rattle.state.specs.declared.Wait.{Wait}
-use Rattle.state.specs.declared.Wait.the-variants.{Nothing, Handshake, Data, Setup}
 use Rattle.state.specs.declared.Chip.{Chip}
-use Rattle.state.specs.State.{senderAt, nothing, fifoOf}
-use Rattle.ends.specs.Ends.{idled, doneFlush, doneByte, senderByte, endedZero, endedSender, endedAt, endedIn, ended, droppedSetup, droppedIn, dropped}
+use Rattle.state.specs.State.{senderAt, nothing}
+use Rattle.ends.specs.Ends.{idled, doneFlush, doneByte, senderByte, endedZero, endedSender, ended, droppedSetup, dropped}
 use Rattle.typed.specs.Typed.{Byte, TypedChip}
+use Rattle.typed.proofs.Steps.{ended-by, dropped-by}
 use Rattle.invariant.proofs.Facts.{WellSender, Facts, with-control-well, with-sender-well, with-pending-well}
 use Rattle.invariant.proofs.Pending.{nothing-well}
 
@@ -53,31 +51,15 @@ module _ (c : Chip) (t : TypedChip c) (f : Facts true c) where
       let s : _ = sender-byte-well (c .pending .holds) (c .pending .held) _ (t .pending .held-byte) h in
       idled-facts true _ (with-sender-well true c f n _ s)
 
-  ended-at-facts : (e : Endpoint) (acked : Bool) → Facts true (endedAt e acked c)
-  unfolding endedAt
-  ended-at-facts e acked = by-test (Facts true) _ (λ _. ended-zero-facts acked) (λ _. ended-sender-facts (fifoOf e) acked)
-
-  ended-in-facts : (w : Wait) (acked : Bool) → Facts true (endedIn w acked c)
-  ended-in-facts Nothing acked = f
-  ended-in-facts (Handshake e) acked = ended-at-facts e acked
-  ended-in-facts (Data e) acked = f
-  ended-in-facts Setup acked = f
-
   -- After the end of the wait for a handshake, with what was held meanwhile.
   pub ended-facts : (acked : Bool) → Facts true (ended acked c)
-  ended-facts acked = ended-in-facts (c .pending .wait) acked
+  ended-facts acked = ended-by (Facts true) c f acked (ended-zero-facts acked) (λ n. ended-sender-facts n acked)
 
 module _ (c : Chip) (f : Facts true c) where
   dropped-setup-facts : Facts true (droppedSetup c)
   unfolding droppedSetup
   dropped-setup-facts = idled-facts true _ (with-control-well true c f _ (kept-bus.setup-dropped-keeps (c .control) (f .control)))
 
-  dropped-in-facts : (w : Wait) → Facts true (droppedIn w c)
-  dropped-in-facts Nothing = f
-  dropped-in-facts (Handshake e) = f
-  dropped-in-facts (Data e) = idled-facts true c f
-  dropped-in-facts Setup = dropped-setup-facts
-
   -- After another bus event instead of awaited data.
   pub dropped-facts : Facts true (dropped c)
-  dropped-facts = dropped-in-facts (c .pending .wait)
+  dropped-facts = dropped-by (Facts true) c f (idled-facts true c f) dropped-setup-facts

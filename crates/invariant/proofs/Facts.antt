@@ -11,7 +11,7 @@ use lib.Dec.{ltb}
 use borrow.Author.Tests.{ltb-true, lt-ltb}
 use Rattle.choice.specs.Choice.{pick}
 use Rattle.window.specs.declared.FifoNumber.{FifoNumber}
-use Rattle.window.specs.Window.{indexOf}
+use Rattle.window.specs.Window.{indexOf, numbered}
 use Rattle.control.specs.declared.Control.{Control}
 use Rattle.control.specs.State as control
 use Rattle.sender.specs.declared.Sender.{Sender}
@@ -26,7 +26,7 @@ use Rattle.state.specs.declared.Pending.{Pending}
 use Rattle.state.specs.declared.Chip.{Chip}
 use Rattle.state.specs.State.{senderAt, receiverAt}
 use Rattle.state.specs.Set.{withControl, withSender, withReceiver, withFar, withMasks, withEvents, withPending}
-use Rattle.settings.specs.Settings.{operational, numbered}
+use Rattle.settings.specs.Settings.{operational}
 use Rattle.formed.specs.Formed.{pendingWell, sendersWell, receiversWell, registersWell, wellFormed}
 use Rattle.typed.specs.Typed.{Each, TypedChip}
 use Rattle.typed.proofs.Arrays.{each-set}
@@ -107,6 +107,12 @@ known o c e t h =
       pending = a .1;
     }
 
+-- the facts of a chip are those of its parts
+made : (o : Bool) (c : Chip) → operational c ≡ o → control.wellFormed o (c .control) ≡ true → Each (WellSender o) sender.resetSender (c .senders)
+    → Each (WellReceiver o) receiver.resetReceiver (c .receivers) → c .nfsr < 4 → c .address < 128 → WellPending o (c .pending) → Facts o c
+made o c e z s r n a p =
+    record { state = e; control = z; senders = s; receivers = r; nfsr-small = n; address-small = a; pending = p }
+
 -- That is all it says.
 module _ (o : Bool) (c : Chip) (f : Facts o c) where
   senders-shown : sendersWell o c ≡ true
@@ -128,85 +134,28 @@ module _ (o : Bool) (c : Chip) (f : Facts o c) where
 
   -- One part changed.
   pub with-control-well : (x : Control) → control.wellFormed o x ≡ true → Facts o (withControl x c)
-  with-control-well x h =
-      record {
-        state = f .state;
-        control = h;
-        senders = f .senders;
-        receivers = f .receivers;
-        nfsr-small = f .nfsr-small;
-        address-small = f .address-small;
-        pending = f .pending;
-      }
+  with-control-well x h = made o _ (f .state) h (f .senders) (f .receivers) (f .nfsr-small) (f .address-small) (f .pending)
 
   pub with-sender-well : (n : FifoNumber) (x : Sender) → WellSender o x → Facts o (withSender n x c)
   with-sender-well n x h =
-      record {
-        state = f .state;
-        control = f .control;
-        senders = each-set (WellSender o) sender.resetSender (c .senders) (indexOf n) x (f .senders) h;
-        receivers = f .receivers;
-        nfsr-small = f .nfsr-small;
-        address-small = f .address-small;
-        pending = f .pending;
-      }
+      made o _ (f .state) (f .control)
+      (each-set (WellSender o) sender.resetSender (c .senders) (indexOf n) x (f .senders) h)
+      (f .receivers) (f .nfsr-small) (f .address-small) (f .pending)
 
   pub with-receiver-well : (n : FifoNumber) (x : Receiver) → WellReceiver o x → Facts o (withReceiver n x c)
   with-receiver-well n x h =
-      record {
-        state = f .state;
-        control = f .control;
-        senders = f .senders;
-        receivers = each-set (WellReceiver o) receiver.resetReceiver (c .receivers) (indexOf n) x (f .receivers) h;
-        nfsr-small = f .nfsr-small;
-        address-small = f .address-small;
-        pending = f .pending;
-      }
+      made o _ (f .state) (f .control) (f .senders)
+      (each-set (WellReceiver o) receiver.resetReceiver (c .receivers) (indexOf n) x (f .receivers) h)
+      (f .nfsr-small) (f .address-small) (f .pending)
 
   pub with-far-well : (x : Bool) (y : ℕ) → y < 128 → Facts o (withFar x y c)
-  with-far-well x y h =
-      record {
-        state = f .state;
-        control = f .control;
-        senders = f .senders;
-        receivers = f .receivers;
-        nfsr-small = f .nfsr-small;
-        address-small = h;
-        pending = f .pending;
-      }
+  with-far-well x y h = made o _ (f .state) (f .control) (f .senders) (f .receivers) (f .nfsr-small) h (f .pending)
 
   pub with-masks-well : (x : Masks) → Facts o (withMasks x c)
-  with-masks-well x =
-      record {
-        state = f .state;
-        control = f .control;
-        senders = f .senders;
-        receivers = f .receivers;
-        nfsr-small = f .nfsr-small;
-        address-small = f .address-small;
-        pending = f .pending;
-      }
+  with-masks-well x = made o _ (f .state) (f .control) (f .senders) (f .receivers) (f .nfsr-small) (f .address-small) (f .pending)
 
   pub with-events-well : (x : Events) → Facts o (withEvents x c)
-  with-events-well x =
-      record {
-        state = f .state;
-        control = f .control;
-        senders = f .senders;
-        receivers = f .receivers;
-        nfsr-small = f .nfsr-small;
-        address-small = f .address-small;
-        pending = f .pending;
-      }
+  with-events-well x = made o _ (f .state) (f .control) (f .senders) (f .receivers) (f .nfsr-small) (f .address-small) (f .pending)
 
   pub with-pending-well : (x : Pending) → WellPending o x → Facts o (withPending x c)
-  with-pending-well x h =
-      record {
-        state = f .state;
-        control = f .control;
-        senders = f .senders;
-        receivers = f .receivers;
-        nfsr-small = f .nfsr-small;
-        address-small = f .address-small;
-        pending = h;
-      }
+  with-pending-well x h = made o _ (f .state) (f .control) (f .senders) (f .receivers) (f .nfsr-small) (f .address-small) h

@@ -8,8 +8,8 @@ use Rattle.state.specs.declared.Endpoint.{Endpoint}
 use Rattle.state.specs.declared.Wait.{Wait}
 use Rattle.state.specs.declared.Wait.the-variants.{Nothing, Handshake, Data, Setup}
 use Rattle.state.specs.declared.Pending.{Pending}
-use Rattle.state.specs.State.{nothing}
-use Rattle.settings.specs.Settings.{awaitsIn, zero}
+use Rattle.state.specs.State.{nothing, zeroPlace, awaitingOnly}
+use Rattle.settings.specs.Settings.{awaitsIn}
 use Rattle.formed.specs.Formed.{sends, receives, unheld, flushBeside, heldBeside, pendingFor}
 use Rattle.invariant.proofs.Facts.{WellPending}
 
@@ -19,15 +19,15 @@ unfolding pendingFor unheld
 nothing-well o = refl
 
 -- A wait that begins: nothing is held yet.
-pub handshake-well : (e : Endpoint) → sends e ≡ true → WellPending true (record { wait = Handshake e; holds = false; held = 0; flush = false })
+pub handshake-well : (e : Endpoint) → sends e ≡ true → WellPending true (awaitingOnly (Handshake e))
 unfolding pendingFor heldBeside flushBeside
 handshake-well e h = rw h
 
-pub data-well : (e : Endpoint) → receives e ≡ true → WellPending true (record { wait = Data e; holds = false; held = 0; flush = false })
+pub data-well : (e : Endpoint) → receives e ≡ true → WellPending true (awaitingOnly (Data e))
 unfolding pendingFor unheld
 data-well e h = rw h
 
-pub setup-well : WellPending true (record { wait = Setup; holds = false; held = 0; flush = false })
+pub setup-well : WellPending true (awaitingOnly Setup)
 unfolding pendingFor unheld
 setup-well = refl
 
@@ -44,7 +44,7 @@ module _ (o : Bool) (e : Endpoint) (p : Pending) where
   held-in v (Data x) a h = cc
   held-in v Setup a h = cc
 
-flush-in : (o : Bool) (p : Pending) (w : Wait) → awaitsIn zero w ≡ true → pendingFor w o p ≡ true
+flush-in : (o : Bool) (p : Pending) (w : Wait) → awaitsIn zeroPlace w ≡ true → pendingFor w o p ≡ true
     → pendingFor w o (record { wait = w; holds = p .holds; held = p .held; flush = true }) ≡ true
 unfolding pendingFor heldBeside flushBeside
 flush-in o p Nothing a h = cc
@@ -62,7 +62,7 @@ module _ (o : Bool) (p : Pending) (h : WellPending o p) where
   held-well e v a = held-in o e p v (p .wait) a h
 
   -- An RXC0 flush held where endpoint 0 awaits a handshake.
-  pub flush-well : awaitsIn zero (p .wait) ≡ true → WellPending o (record { wait = p .wait; holds = p .holds; held = p .held; flush = true })
+  pub flush-well : awaitsIn zeroPlace (p .wait) ≡ true → WellPending o (record { wait = p .wait; holds = p .holds; held = p .held; flush = true })
   flush-well a = flush-in o p (p .wait) a h
 
 -- What is awaited and held outside the operational state, nothing, may stand in it.

@@ -5,7 +5,7 @@ use Prim.Native.Nat.{ℕ, _≤_, _<_}
 use native.Mathlib.Omega.{arith}
 use mathlib.Core.Path.{_≡_, refl}
 use mathlib.Core.Logic.{_≢_}
-use mathlib.Core.Bool.{Bool, true, false, _&&_, _||_, not}
+use mathlib.Core.Bool.{Bool, true, false, _&&_, _||_, not, and-eq-true-iff}
 use mathlib.Core.List.{List}
 use lib.ListN.{length}
 use lib.Dec.{leb, eqb}
@@ -16,7 +16,7 @@ use Rattle.fifo0.specs.declared.Fifo0.{Fifo0}
 use Rattle.fifo0.specs.declared.Taken0.{Taken0}
 use Rattle.fifo0.specs.Control.{reset0, rcount, put0, take0, fill0, spend0}
 use Rattle.contents.proofs.Ring.{Counters, level-adds, level-read}
-use Rattle.contents.proofs.Control.{Canonical0, put0-canonical, take0-canonical, fill0-canonical, spend0-canonical, reset0-canonical}
+use Rattle.contents.proofs.Control.{second-false, Canonical0, put0-canonical, take0-canonical, fill0-canonical, spend0-canonical, reset0-canonical}
 use Rattle.control.specs.declared.Control.{Control}
 use Rattle.epc.specs.Bits.{odd}
 use Rattle.control.specs.State.{withFifo, resetControl, unmarkedEmpty, wellFormed}
@@ -30,10 +30,6 @@ pub record InOrder (f : Fifo0) : Type 0 where
 -- the enables in or outside the operational state
 abbrev pub still : Bool → Control → Bool
 still operational c = operational || not (c .sends || c .receives)
-
-both : (a b : Bool) → (a && b) ≡ true → (a ≡ true) × (b ≡ true)
-both true b e = (refl, e)
-both false b e = (e, cc)
 
 -- the test of the mark of received bytes, as a fact, and back
 marked : (f : Fifo0) → unmarkedEmpty f ≡ true → Canonical0 f
@@ -53,13 +49,13 @@ module _ (operational : Bool) (c : Control) where
   pub in-order : wellFormed operational c ≡ true → InOrder (c .fifo)
   unfolding wellFormed
   in-order h =
-      let e : _ = both (leb (level (c .fifo .read) (c .fifo .write)) 8 && unmarkedEmpty (c .fifo)) (still operational c) h in
-      let d : _ = both (leb (level (c .fifo .read) (c .fifo .write)) 8) (unmarkedEmpty (c .fifo)) (e .0) in
+      let e : _ = and-eq-true-iff (leb (level (c .fifo .read) (c .fifo .write)) 8 && unmarkedEmpty (c .fifo)) (still operational c) .0 h in
+      let d : _ = and-eq-true-iff (leb (level (c .fifo .read) (c .fifo .write)) 8) (unmarkedEmpty (c .fifo)) .0 (e .0) in
       record { within = leb-true _ 8 (d .0); canonical = marked (c .fifo) (d .1) }
 
   pub is-still : wellFormed operational c ≡ true → still operational c ≡ true
   unfolding wellFormed
-  is-still h = both (leb (level (c .fifo .read) (c .fifo .write)) 8 && unmarkedEmpty (c .fifo)) (still operational c) h .1
+  is-still h = and-eq-true-iff (leb (level (c .fifo .read) (c .fifo .write)) 8 && unmarkedEmpty (c .fifo)) (still operational c) .0 h .1
 
   pub well : InOrder (c .fifo) → still operational c ≡ true → wellFormed operational c ≡ true
   unfolding wellFormed
@@ -68,10 +64,6 @@ module _ (operational : Bool) (c : Control) where
 -- FIFO0 after a flush, a put, a take, a packet, an ACK.
 pub reset0-in-order : InOrder reset0
 reset0-in-order = record { within = omega arith; canonical = reset0-canonical }
-
-second-false : (a b : Bool) → (a || b) ≡ false → b ≡ false
-second-false true b e = cc
-second-false false b e = e
 
 module _ (f : Fifo0) where
   pub spend0-in-order : InOrder (spend0 f)
@@ -105,7 +97,7 @@ module _ (f : Fifo0) (c : Counters (f .read) (f .write)) (h : InOrder f) where
   unfolding fill0
   fill0-within s =
       by-test (λ (g : Fifo0). level (g .read) (g .write) ≤ 8) _ (λ room.
-      let e : _ = both (eqb (level (f .read) (f .write)) 0) (leb (length s) 8) room in
+      let e : _ = and-eq-true-iff (eqb (level (f .read) (f .write)) 0) (leb (length s) 8) .0 room in
       let none : level (f .read) (f .write) ≡ 0 = eqb-true _ 0 (e .0) in
       let fits : length s ≤ 8 = leb-true _ 8 (e .1) in
       omega (arith, level-adds (f .read) (f .write) c (length s) (omega arith))) (λ _. h .within)

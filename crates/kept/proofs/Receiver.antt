@@ -16,10 +16,10 @@ use Rattle.ring.specs.Ring.{next, level}
 use Rattle.rxfifo.specs.declared.RxFifo.{RxFifo}
 use Rattle.rxfifo.specs.declared.TakenRx.{TakenRx}
 use Rattle.rxfifo.specs.Receive.{takeRx, fillRx}
-use Rattle.epc.specs.declared.Epc.{Epc}
 use Rattle.epc.specs.Epc.{epcOf}
 use Rattle.receiver.specs.declared.Receiver.{Receiver}
 use Rattle.receiver.specs.Receiver.{resetReceiver, cleared, flushed, command, takeByte, received, stopped, wellFormed}
+use Rattle.writes.specs.Write.{receiverEpc}
 
 -- the counters are bytes
 pub record Counters (f : RxFifo) : Type 0 where
@@ -128,24 +128,9 @@ stopped-keeps operational after s w =
     let f : _ = known operational s w in
     shown after _ (unarmed after _ (f .parts) (f .middle-small) refl)
 
--- the state with another EPC
-abbrev pub withEpc : Epc → Receiver → Receiver
-withEpc p s =
-    record {
-      fifo = s .fifo;
-      epc = p;
-      err = s .err;
-      setup = s .setup;
-      toggle = s .toggle;
-      last = s .last;
-      middle = s .middle;
-      ignore = s .ignore;
-      enabled = s .enabled;
-    }
-
 -- An EPC write keeps a state well formed.
 pub epc-keeps : (operational : Bool) (v : ℕ) (s : Receiver)
-    → wellFormed operational s ≡ true → wellFormed operational (withEpc (epcOf v) s) ≡ true
+    → wellFormed operational s ≡ true → wellFormed operational (receiverEpc (epcOf v) s) ≡ true
 epc-keeps operational v s w =
     let f : _ = known operational s w in
     shown operational _ (record { parts = (f .parts .0, omega arith); middle-small = f .middle-small; quiet = f .quiet })

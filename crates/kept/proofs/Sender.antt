@@ -13,10 +13,11 @@ use Rattle.window.specs.Window.{txSize}
 use Rattle.ring.specs.Ring.{next, level, full}
 use Rattle.txfifo.specs.declared.TxFifo.{TxFifo}
 use Rattle.txfifo.specs.Transmit.{putTx, refillTx, spendTx}
-use Rattle.epc.specs.declared.Epc.{Epc}
+use Rattle.contents.proofs.Ring.{level-self}
 use Rattle.epc.specs.Epc.{epcOf}
 use Rattle.sender.specs.declared.Sender.{Sender}
 use Rattle.sender.specs.Sender.{resetSender, withFifo, cleared, moved, marked, command, sent, handshake, stopped, near, wellFormed}
+use Rattle.writes.specs.Write.{senderEpc}
 
 -- the counters are bytes
 pub record Counters (f : TxFifo) : Type 0 where
@@ -71,20 +72,16 @@ shown operational s f =
       f .quiet,
     )
 
--- a counter is at level 0 from itself
-self-level : (n : ℕ) → level n n ≡ 0
-self-level n = omega arith
-
 -- read put where saved is, saved put where read is, or both where write is
 at-saved : (saved write : ℕ) → level saved write ≤ 64 → Levels (record { read = saved; write = write; saved = saved })
-at-saved saved write le = record { level-fits = le; saved-near = omega (arith, self-level saved) }
+at-saved saved write le = record { level-fits = le; saved-near = omega (arith, level-self saved) }
 
 refill-levels : (f : TxFifo) → Levels f → Levels (refillTx f)
 unfolding refillTx
 refill-levels f l = by-test Levels _ (λ e. at-saved (f .saved) (f .write) (leb-true _ 64 e)) (λ _. l)
 
 spend-levels : (f : TxFifo) → Counters f → Levels f → level (f .saved) (f .read) ≡ 0 → Levels (spendTx f)
-spend-levels f c l here = record { level-fits = omega (arith, self-level (f .write)); saved-near = omega arith }
+spend-levels f c l here = record { level-fits = omega (arith, level-self (f .write)); saved-near = omega arith }
 
 -- a TXC byte before its bits
 moved-parts : (v : ℕ) (s : Sender) → Parts s → Parts (moved v s)
@@ -99,7 +96,7 @@ unfolding marked
 marked-facts v s p h l =
     by-test (Facts true) _ (λ _. record {
       parts = (at-saved (s .fifo .read) (s .fifo .write) (p .0 .level-fits), p .1);
-      saved-at = eq-eqb _ 0 (self-level (s .fifo .read));
+      saved-at = eq-eqb _ 0 (level-self (s .fifo .read));
       high-small = h;
       quiet = refl;
     }) (λ _. record { parts = p; saved-at = rw l; high-small = h; quiet = refl })
@@ -138,7 +135,7 @@ sent-facts s c f =
     let here : level (s .fifo .saved) (s .fifo .read) ≡ 0 = at-last s e (f .saved-at) in
     record { parts = (spend-levels (s .fifo) c (f .parts .0) here, f .parts .1); saved-at = refl; high-small = f .high-small; quiet = refl }) (λ _. record {
       parts = (at-saved (s .fifo .write) (s .fifo .write) (omega arith), f .parts .1);
-      saved-at = rw (eq-eqb _ 0 (self-level (s .fifo .write))) (or-true (not (s .last)));
+      saved-at = rw (eq-eqb _ 0 (level-self (s .fifo .write))) (or-true (not (s .last)));
       high-small = f .high-small;
       quiet = refl;
     }))) (λ _. f)
@@ -174,24 +171,9 @@ stopped-keeps operational after s w =
     let f : _ = known operational s w in
     shown after _ (record { parts = f .parts; saved-at = refl; high-small = f .high-small; quiet = or-true after })
 
--- the state with another EPC
-abbrev pub withEpc : Epc → Sender → Sender
-withEpc p s =
-    record {
-      fifo = s .fifo;
-      epc = p;
-      urun = s .urun;
-      ack = s .ack;
-      done = s .done;
-      high = s .high;
-      toggle = s .toggle;
-      last = s .last;
-      enabled = s .enabled;
-    }
-
 -- An EPC write keeps a state well formed.
 pub epc-keeps : (operational : Bool) (v : ℕ) (s : Sender)
-    → wellFormed operational s ≡ true → wellFormed operational (withEpc (epcOf v) s) ≡ true
+    → wellFormed operational s ≡ true → wellFormed operational (senderEpc (epcOf v) s) ≡ true
 epc-keeps operational v s w =
     let f : _ = known operational s w in
     shown operational _ (record { parts = (f .parts .0, omega arith); saved-at = f .saved-at; high-small = f .high-small; quiet = f .quiet })

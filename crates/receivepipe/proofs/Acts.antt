@@ -1,14 +1,13 @@
 -- Every action keeps what stands of endpoint 2, the driver's toggle, the host and the two lists.
 -- Assumes nothing.
-use Prim.Native.Nat.{ℕ, _+_, _/_, _%_, _≤_}
-use native.Mathlib.Omega.{arith}
+use Prim.Native.Nat.{ℕ, _≤_}
 use mathlib.Core.Path.{_≡_, refl, ap, _∙_}
 use mathlib.Core.Logic.{_⊎_, inl, inr}
 use mathlib.Core.Bool.{Bool, true, false, not, _&&_, _||_, false≢true, and-eq-true-iff}
 use mathlib.Core.List.{List, []}
 use lib.ListN.{length}
 use lib.Dec.{leb}
-use borrow.Author.Tests.{leb-true, ne-eqb}
+use borrow.Author.Tests.{leb-true, not-true}
 use Rattle.choice.proofs.ByTest.{by-test}
 use Rattle.event.specs.declared.BusEndpoint.{BusEndpoint}
 use Rattle.event.specs.declared.Event.{Event}
@@ -20,20 +19,27 @@ use Rattle.state.specs.declared.Wait.{Wait}
 use Rattle.state.specs.declared.Wait.the-variants.{Nothing, Handshake, Data, Setup}
 use Rattle.state.specs.declared.Chip.{Chip}
 use Rattle.state.specs.State.{Model}
-use Rattle.settings.specs.Settings.{operational, numbered}
-use Rattle.frame.specs.Place.{receives, isOwner, awaitedOf, awaited}
-use Rattle.frame.specs.Owner.{dataOwner, next}
+use Rattle.settings.specs.Settings.{operational}
+use Rattle.window.specs.Window.{numbered}
+use Rattle.frame.specs.Place.{endpoint, receives, isOwner, awaitedOf, awaited}
+use Rattle.typed.specs.Typed.{Bytes}
+use Rattle.typed.specs.Next.{next}
+use Rattle.frame.specs.Owner.{dataOwner}
 use Rattle.frame.specs.Settings.{isAccess}
 use Rattle.frame.specs.Driver.{reserved}
-use Rattle.driver.proofs.Range.{in-range}
+use Rattle.driver.specs.Driver.{Call, offered, sendServed}
 use Rattle.receiving.specs.Receive.{receiveServed}
+use Rattle.driving.specs.Touches.{Sending, KeepsExpected, Reaches}
+use Rattle.driving.proofs.Reached.{offer-reaches, send-reaches}
 use Rattle.driving.proofs.Kept.{Sound}
 use Rattle.driving.proofs.Packet.{held}
 use Rattle.world.specs.Host.{Packet, Open, over, acks, fails, datas, others, Fate, sound, damaged, lost, Action, offer, sendService, receiveService, access, take, inToken, ack, outToken, outData, other, timeout, late, isOver, isDatas, isOthers, otherToken, otherRest}
 use Rattle.world.specs.World.{World, called, actOffer, actSend, actReceive, answerTo, happens, hostly, actIn, actAck, isAck, actTake, actOut, sent, actData, afterToken, actOther, act}
-use Rattle.standing.specs.Standing.{endpoint, Awaits, Standing}
+use Rattle.world.specs.Lists.{ActionBytes}
+use Rattle.standing.specs.Standing.{Awaits, Standing}
+use Rattle.standing.proofs.Reaches.{epc-unstalled, pipes-range}
 use Rattle.receivepipe.proofs.Storing.{Shut, Shape}
-use Rattle.receivepipe.proofs.Alike.{rx, Alike, Apart, in-alike, setup-alike, ack-alike, timeout-alike, data-alike, out-alike, access-alike, offer-apart, send-apart}
+use Rattle.receivepipe.proofs.Alike.{rx, Alike, in-alike, setup-alike, ack-alike, timeout-alike, data-alike, out-alike, access-alike, sending-alike}
 use Rattle.receivepipe.proofs.Deliver.{none-answer, good-stored, good-acked, bad-shut, bad-silent, shut-silent, shut-alike}
 use Rattle.receivepipe.proofs.Service.{Served, service-served}
 use Rattle.receivepipe.proofs.Flow.{Flows, Flow, moved, host-flows, goes-keeps, in-keeps, up-flows, unacked, stored-flows, damaged-flows, served-flows}
@@ -43,9 +49,8 @@ use Rattle.receivepipe.proofs.Flow.{Flows, Flow, moved, host-flows, goe
 -- "EPC2 10+f": no STALL
 pub clear : (w : World) → Standing w → rx (w .model) .epc .stall ≡ false
 clear w s =
-    let r : _ = in-range (w .pipes .a) (w .pipes .e) (w .pipes .f) (s .startable-as) in
-    let none : (0x10 + w .pipes .f .0) / 128 % 2 ≡ 1 → ⊥ = omega (arith, r .2) in
-    ap (λ (p : Epc). p .stall) (s .set-up .receives-as) ∙ ne-eqb _ 1 none
+    ap (λ (p : Epc). p .stall) (s .set-up .receives-as)
+    ∙ epc-unstalled (w .pipes .f .0) (pipes-range (w .pipes) (s .startable-as) .receives-high)
 
 pub sound-of : (w : World) → Standing w → Sound (w .model)
 sound-of w s = record { typed = s .typed; formed = s .set-up .well }
@@ -99,10 +104,6 @@ module _ (m : Model) (on : operational (m .chip) ≡ true) (s : List ℕ) where
   rest-alike event.Ack free y = ack-alike s m on
   rest-alike event.Timeout free y = absurd {0} (false≢true y)
 
-no-not : (b : Bool) → not b ≡ true → b ≡ false
-no-not true e = absurd {0} (false≢true e)
-no-not false e = refl
-
 seen-false : (seen : Bool) {a : Bool} → a ≡ false → (seen && a) ≡ false
 seen-false true e = e
 seen-false false e = refl
@@ -121,17 +122,18 @@ module _ (w : World) (s : Standing w) (f : Flow w) where
   still : {m : Model} → Alike (w .model) m → Flows (rx m) (held m) (w .driver .expects) (w .host) (w .lists .taken) (w .lists .known)
   still a = moved (a .state) (a .bytes) refl f
 
-  offer-flow : (p : Packet) → Flow (actOffer p w)
+  -- so it is after a call that accesses endpoint 1's registers alone
+  sent-flow : (x : Call) → Reaches Sending KeepsExpected (w .model) (w .driver) x
+      → Flows (rx (x .model)) (held (x .model)) (x .driver .expects) (w .host) (w .lists .taken) (w .lists .known)
+  sent-flow x r = let a : _ = sending-alike (r .touches) in moved (a .state) (a .bytes) (r .keeps) f
+
+  offer-flow : (p : Packet) → Bytes p → Flow (actOffer p w)
   unfolding actOffer called
-  offer-flow p =
-      let a : Apart (w .model) (w .driver) _ = offer-apart p (w .model) (w .driver) in
-      moved (a .chip .state) (a .chip .bytes) (a .expects) f
+  offer-flow p b = sent-flow (offered p (w .model) (w .driver)) (offer-reaches p (w .model) (w .driver) b)
 
   send-flow : Flow (actSend w)
   unfolding actSend called
-  send-flow =
-      let a : Apart (w .model) (w .driver) _ = send-apart (w .model) (w .driver) in
-      moved (a .chip .state) (a .chip .bytes) (a .expects) f
+  send-flow = sent-flow (sendServed (w .model) (w .driver)) (send-reaches (w .model) (w .driver))
 
   receive-flow : Flow (actReceive w)
   unfolding actReceive called
@@ -146,7 +148,7 @@ module _ (w : World) (s : Standing w) (f : Flow w) where
       by-test Flow _ (λ e.
       let q : _ = and-eq-true-iff (isAccess t && not (reserved t)) (inRange t 0) .0 e in
       let p : _ = and-eq-true-iff (isAccess t) (not (reserved t)) .0 (q .0) in
-      still (access-alike t [] (w .model) (p .0) (no-not (reserved t) (p .1)))) (λ _. f)
+      still (access-alike t [] (w .model) (p .0) (not-true (reserved t) (p .1)))) (λ _. f)
 
   take-flow : (p : Packet) → Flow (actTake p w)
   unfolding actTake hostly
@@ -154,7 +156,7 @@ module _ (w : World) (s : Standing w) (f : Flow w) where
       by-test Flow (not (w .host .holds) && leb 1 (length p) && leb (length p) 64) (λ e.
       let q : _ = and-eq-true-iff (not (w .host .holds) && leb 1 (length p)) (leb (length p) 64) .0 e in
       let r : _ = and-eq-true-iff (not (w .host .holds)) (leb 1 (length p)) .0 (q .0) in
-      up-flows f p (no-not (w .host .holds) (r .0))) (λ _. f)
+      up-flows f p (not-true (w .host .holds) (r .0))) (λ _. f)
 
   in-flow : (reaches seen : Bool) → Flow (actIn reaches seen w)
   unfolding actIn hostly happens
@@ -249,18 +251,18 @@ module _ (w : World) (s : Standing w) (f : Flow w) where
   data-flow lost seen e = host-flows (goes-keeps fails (w .host)) f
 
 -- Every action keeps it.
-pub act-flows : (x : Action) (w : World) → Standing w → Flow w → Flow (act x w)
-unfolding act
-act-flows (offer p) w s f = offer-flow w s f p
-act-flows sendService w s f = send-flow w s f
-act-flows receiveService w s f = receive-flow w s f
-act-flows (access t) w s f = access-flow w s f t
-act-flows (take p) w s f = take-flow w s f p
-act-flows (inToken reaches seen) w s f = by-test Flow _ (λ _. in-flow w s f reaches seen) (λ _. f)
-act-flows (ack reaches) w s f = by-test Flow _ (λ _. ack-flow w s f reaches) (λ _. f)
-act-flows (outToken reaches) w s f =
+pub act-flows : (x : Action) (w : World) → ActionBytes x → Standing w → Flow w → Flow (act x w)
+unfolding act ActionBytes
+act-flows (offer p) w b s f = offer-flow w s f p b
+act-flows sendService w b s f = send-flow w s f
+act-flows receiveService w b s f = receive-flow w s f
+act-flows (access t) w b s f = access-flow w s f t
+act-flows (take p) w b s f = take-flow w s f p
+act-flows (inToken reaches seen) w b s f = by-test Flow _ (λ _. in-flow w s f reaches seen) (λ _. f)
+act-flows (ack reaches) w b s f = by-test Flow _ (λ _. ack-flow w s f reaches) (λ _. f)
+act-flows (outToken reaches) w b s f =
     by-test Flow (isOver (w .host .at) && w .host .holds) (λ _. out-flow w s f reaches) (λ _. f)
-act-flows (outData x seen) w s f = by-test Flow (isDatas (w .host .at)) (λ e. data-flow w s f x seen e) (λ _. f)
-act-flows (other t b) w s f = other-flow w s f t b
-act-flows timeout w s f = timeout-flow w s f
-act-flows late w s f = late-flow w s f
+act-flows (outData x seen) w b s f = by-test Flow (isDatas (w .host .at)) (λ e. data-flow w s f x seen e) (λ _. f)
+act-flows (other t p) w b s f = other-flow w s f t p
+act-flows timeout w b s f = timeout-flow w s f
+act-flows late w b s f = late-flow w s f

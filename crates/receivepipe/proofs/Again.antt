@@ -1,6 +1,5 @@
 -- A service, then, if a packet is still held, one transaction of it in which nothing is lost or damaged and a service make both lists equal.
 -- Assumes nothing.
-use Prim.Native.Nat.{_+_}
 use mathlib.Core.Path.{_≡_, refl, sym, ap, _∙_}
 use mathlib.Core.Bool.{Bool, true, false, _&&_}
 use mathlib.Core.List.{List, [], _∷_, _++_, append-nil}
@@ -12,7 +11,8 @@ use Rattle.driver.specs.Driver.{startable}
 use Rattle.world.specs.Host.{over, sound, Action, receiveService, outToken, outData, isOver, isDatas}
 use Rattle.world.specs.World.{Pipes, World, startWorld, ifSo, called, actReceive, answerTo, happens, goes, isAck, actOut, hostOut, sent, actData, act, acts}
 use Rattle.world.specs.Lists.{ActionBytes, FateBytes, AllBytes, waiting, has, hostHeld, recoverReceiving, ReceivedAgain}
-use Rattle.standing.specs.Standing.{endpoint, Standing}
+use Rattle.frame.specs.Place.{endpoint}
+use Rattle.standing.specs.Standing.{Standing}
 use Rattle.standing.proofs.Reaches.{pipes-range, out-reaches-then}
 use Rattle.standing.proofs.Waits.{out-waits}
 use Rattle.standing.proofs.Stands.{act-stands, reached-stands}
@@ -35,7 +35,7 @@ module _ (w : World) (s : Standing w) (f : Flow w) where
   settled : w .host .holds ≡ false → act receiveService w .lists .taken ≡ w .lists .known
   settled free =
       let v : World = act receiveService w in
-      free-even (rw (ready-waits (rx (v .model)) (v .driver .expects) serviced) at (act-flows receiveService w s f .tally)) still ∙ same-known
+      free-even (rw (ready-waits (rx (v .model)) (v .driver .expects) serviced) at (act-flows receiveService w (unfold ActionBytes in tt) s f .tally)) still ∙ same-known
     where
       still : act receiveService w .host .holds ≡ false
       still = unfold act actReceive called in free
@@ -114,7 +114,7 @@ module _ (w : World) (s : Standing w) (f : Flow w) (at : w .host .at ≡ over) (
   stands-one = act-stands receiveService w (unfold ActionBytes in tt) s
 
   flow-one : Flow one
-  flow-one = act-flows receiveService w s f
+  flow-one = act-flows receiveService w (unfold ActionBytes in tt) s f
 
   stands-two : Standing two
   stands-two = act-stands (outToken true) one (unfold ActionBytes in tt) stands-one
@@ -123,7 +123,9 @@ module _ (w : World) (s : Standing w) (f : Flow w) (at : w .host .at ≡ over) (
   stands-three = act-stands (outData sound true) two (unfold ActionBytes FateBytes in tt) stands-two
 
   flow-three : Flow three
-  flow-three = act-flows (outData sound true) two stands-two (act-flows (outToken true) one stands-one flow-one)
+  flow-three =
+      act-flows (outData sound true) two (unfold ActionBytes FateBytes in tt) stands-two
+      (act-flows (outToken true) one (unfold ActionBytes in tt) stands-one flow-one)
 
   begun : Opened one two
   begun = token one stands-one (unfold act actReceive called in at) (unfold act actReceive called in holds)

@@ -1,9 +1,9 @@
 -- The bus events, the register accesses and the driver's calls that leave endpoint 2 and its bytes as they were.
 -- Assumes nothing.
-use Prim.Native.Nat.{ℕ}
+use Prim.Native.Nat.{ℕ, _<_}
 use mathlib.Core.Path.{_≡_, refl, _∙_}
 use mathlib.Core.Bool.{Bool, true, false}
-use mathlib.Core.List.{List, [], _∷_}
+use mathlib.Core.List.{List, []}
 use lib.Dec.{eqb}
 use Rattle.choice.specs.Choice.{pick}
 use Rattle.choice.proofs.ByTest.{by-test}
@@ -11,29 +11,29 @@ use Rattle.event.specs.declared.BusEndpoint.{BusEndpoint}
 use Rattle.event.specs.declared.Event.{Event}
 use Rattle.event.specs.declared.Event.the-variants as event
 use Rattle.receiver.specs.declared.Receiver.{Receiver}
-use Rattle.state.specs.declared.Endpoint.{Endpoint}
-use Rattle.state.specs.declared.Wait.{Wait}
-use Rattle.state.specs.declared.Wait.the-variants.{Nothing, Handshake, Data, Setup}
 use Rattle.state.specs.declared.Chip.{Chip}
 use Rattle.state.specs.State.{Model, receiverAt}
-use Rattle.settings.specs.Settings.{operational, numbered}
+use Rattle.settings.specs.Settings.{operational}
+use Rattle.window.specs.Window.{numbered}
 use Rattle.tokens.specs.declared.Match.{Match}
 use Rattle.tokens.specs.declared.Match.the-variants.{Nobody, Takes}
-use Rattle.tokens.specs.Tokens.{zeroTakes, inMask, outMask, winner}
-use Rattle.ends.specs.Ends.{idled, endedZero, endedSender, endedAt, endedIn, ended, droppedSetup, droppedIn}
+use Rattle.tokens.specs.Tokens.{outMask, winner}
+use Rattle.ends.specs.Ends.{idled, endedZero, endedSender, ended, droppedSetup}
 use Rattle.bus.specs.Bus.{awaiting, outAt, outBy}
 use Rattle.step.specs.Step.{quiet, readStep, writeStep, outStep, stepOf, stepBytes}
-use Rattle.frame.specs.Place.{Place, sends, receives, sendingPlace, one, isOwner, Same}
-use Rattle.frame.specs.Owner.{registerOwner, slotPlace, inOwner, setupOwner, dataOwner, owner, isFor, exempt, next, acks, quieted}
+use Rattle.typed.specs.Next.{next}
+use Rattle.typed.proofs.Steps.{ended-by, dropped-by}
+use Rattle.frame.specs.Place.{receives, isOwner, Same}
+use Rattle.frame.specs.Owner.{registerOwner, slotPlace, dataOwner, owner, isFor, exempt, acks, quieted}
 use Rattle.frame.specs.Settings.{isAccess}
 use Rattle.frame.specs.Driver.{endpoint2, reserved}
 use Rattle.frame.proofs.Frame.{bus-frame, frame, same-holds}
 use Rattle.frame.proofs.Pipes.{unreserved-keeps}
-use Rattle.driver.specs.declared.Driver.{Driver}
-use Rattle.driver.specs.Registers.{written, writtenAll, value, seen}
-use Rattle.driver.specs.Driver.{Call, again, accepted, offered, answered, sendServed}
-use Rattle.driver.proofs.Cases.{offer-cases}
+use Rattle.driver.specs.Registers.{written, seen}
+use Rattle.driving.specs.Touches.{Touches, Sending, txs, txd, txc}
+use Rattle.driving.proofs.Reached.{touches-by}
 use Rattle.driving.proofs.Packet.{held}
+use Rattle.standing.proofs.Reaches.{in-not-receives, setup-not-piped}
 
 -- endpoint 2
 abbrev pub rx : Model → Receiver
@@ -55,25 +55,12 @@ same-alike m m′ k = record { state = k .endpoint .state; bytes = same-holds (r
 
 -- ---- the end of a wait is another's
 
-ended-receivers : (w : Wait) (acked : Bool) (c : Chip) → endedIn w acked c .receivers ≡ c .receivers
-unfolding endedAt endedZero endedSender idled
-ended-receivers Nothing acked c = refl
-ended-receivers (Handshake e) acked c = by-test (λ (x : Chip). x .receivers ≡ c .receivers) (eqb (e .0) 0) (λ _. refl) (λ _. refl)
-ended-receivers (Data e) acked c = refl
-ended-receivers Setup acked c = refl
-
-dropped-receivers : (w : Wait) (c : Chip) → droppedIn w c .receivers ≡ c .receivers
-unfolding droppedSetup idled
-dropped-receivers Nothing c = refl
-dropped-receivers (Handshake e) c = refl
-dropped-receivers (Data e) c = refl
-dropped-receivers Setup c = refl
-
-pub quiet-receivers : (acked : Bool) (c : Chip) → quiet acked c .receivers ≡ c .receivers
-unfolding quiet
+quiet-receivers : (acked : Bool) (c : Chip) → quiet acked c .receivers ≡ c .receivers
+unfolding quiet endedZero endedSender droppedSetup idled
 quiet-receivers acked c =
     let x : Chip = ended acked c in
-    dropped-receivers (x .pending .wait) x ∙ ended-receivers (c .pending .wait) acked c
+    dropped-by (λ (n : Chip). n .receivers ≡ x .receivers) x refl refl refl
+    ∙ ended-by (λ (n : Chip). n .receivers ≡ c .receivers) c refl acked refl (λ _. refl)
 
 -- a chip with the same receivers, and the same memory
 parts-alike : (c c′ : Chip) (m : List ℕ) → c′ .receivers ≡ c .receivers
@@ -89,26 +76,13 @@ bus-alike t s m bus on other =
     (same-alike (quieted t m) (next t s m) (bus-frame t s m (receives (numbered 1)) bus on other))
 
 module _ (s : List ℕ) (m : Model) (on : operational (m .chip) ≡ true) where
-  sender-apart : (e : Endpoint) → isOwner (one (sendingPlace e)) (receives (numbered 1)) ≡ false
-  unfolding sendingPlace
-  sender-apart e = by-test (λ (q : Place). isOwner (one q) (receives (numbered 1)) ≡ false) _ (λ _. refl) (λ _. refl)
-
-  in-apart : (w : Match) → isOwner (inOwner w) (receives (numbered 1)) ≡ false
-  in-apart Nobody = refl
-  in-apart (Takes e) = sender-apart e
-
-  setup-apart : (b : Bool) → isOwner (setupOwner b) (receives (numbered 1)) ≡ false
-  unfolding setupOwner pick
-  setup-apart true = refl
-  setup-apart false = refl
-
   pub in-alike : (a : ℕ) (e : BusEndpoint) → Alike m (next (event.In a e) s m)
-  unfolding isAccess owner pick
-  in-alike a e = bus-alike (event.In a e) s m refl on (rw on (in-apart (winner (inMask a e (m .chip)))))
+  unfolding isAccess
+  in-alike a e = bus-alike (event.In a e) s m refl on (in-not-receives a e (m .chip))
 
   pub setup-alike : (a : ℕ) (e : BusEndpoint) → Alike m (next (event.Setup a e) s m)
-  unfolding isAccess owner pick
-  setup-alike a e = bus-alike (event.Setup a e) s m refl on (rw on (setup-apart (zeroTakes a e (m .chip))))
+  unfolding isAccess
+  setup-alike a e = bus-alike (event.Setup a e) s m refl on (setup-not-piped a e (m .chip) (receives (numbered 1)) endpoint2)
 
   pub ack-alike : Alike m (next event.Ack s m)
   unfolding isAccess owner
@@ -141,51 +115,16 @@ module _ (s : List ℕ) (m : Model) (on : operational (m .chip) ≡ true) where
 pub access-alike : (t : Event) (s : List ℕ) (m : Model) → isAccess t ≡ true → reserved t ≡ false → Alike m (next t s m)
 access-alike t s m access free = same-alike m (next t s m) (unreserved-keeps t s m (receives (numbered 1)) endpoint2 access free)
 
-module _ (m : Model) where
-  put-alike : (v : ℕ) → Alike m (written 0x29 v m)
-  unfolding written owner exempt registerOwner slotPlace pick stepOf stepBytes writeStep
-  put-alike v = same-alike m _ (frame (event.Write 0x29 v) [] m (receives (numbered 1)) refl refl)
+-- ---- an offer and the send service
 
-  command-alike : (v : ℕ) → Alike m (written 0x2B v m)
-  unfolding written owner exempt registerOwner slotPlace pick stepOf stepBytes writeStep
-  command-alike v = same-alike m _ (frame (event.Write 0x2B v) [] m (receives (numbered 1)) refl refl)
+sent-read : (a : ℕ) (m : Model) → Sending (event.Read a) → Alike m (seen a m)
+unfolding seen owner exempt registerOwner slotPlace pick stepOf stepBytes readStep
+sent-read a m txs = same-alike m _ (frame (event.Read 0x2A) [] m (receives (numbered 1)) refl refl)
 
-  status-alike : Alike m (seen 0x2A m)
-  unfolding seen owner exempt registerOwner slotPlace pick stepOf stepBytes readStep
-  status-alike = same-alike m _ (frame (event.Read 0x2A) [] m (receives (numbered 1)) refl refl)
+sent-write : (a v : ℕ) (m : Model) → Sending (event.Write a v) → v < 256 → Alike m (written a v m)
+unfolding written owner exempt registerOwner slotPlace pick stepOf stepBytes writeStep
+sent-write a v m (txd x) b = same-alike m _ (frame (event.Write 0x29 x) [] m (receives (numbered 1)) refl refl)
+sent-write a v m (txc x) b = same-alike m _ (frame (event.Write 0x2B x) [] m (receives (numbered 1)) refl refl)
 
--- ---- an offer and the send service: they leave the toggle that the driver expects, too
-
-pub record Apart (m : Model) (d : Driver) (x : Call) : Type 0 where
-  pub chip : Alike m (x .model)
-  pub expects : x .driver .expects ≡ d .expects
-
-puts-alike : (s : List ℕ) (m : Model) → Alike m (writtenAll 0x29 s m)
-unfolding writtenAll
-puts-alike [] m = alike m
-puts-alike (b ∷ s) m = alike-then (put-alike m b) (puts-alike s (written 0x29 b m))
-
-pub offer-apart : (s : List ℕ) (m : Model) (d : Driver) → Apart m d (offered s m d)
-offer-apart s m d = offer-cases (Apart m d) s m d (λ why. record { chip = alike m; expects = refl }) go
-  where
-    go : Apart m d (accepted s m d)
-    go = unfold accepted in (record { chip = alike-then (puts-alike s m) (command-alike (writtenAll 0x29 s m) _); expects = refl })
-
-answered-apart : (status : ℕ) (m : Model) (d : Driver) → Apart m d (answered status m d)
-unfolding answered
-answered-apart status m d =
-    by-test (Apart m d) _ (λ _.
-    by-test (Apart m d) _
-    (λ _. record { chip = alike m; expects = refl })
-    (λ _. record { chip = command-alike m (again (d .sends)); expects = refl }))
-    (λ _. record { chip = alike m; expects = refl })
-
-apart-from : {m n : Model} {d : Driver} {x : Call} → Alike m n → Apart n d x → Apart m d x
-apart-from a p = record { chip = alike-then a (p .chip); expects = p .expects }
-
-pub send-apart : (m : Model) (d : Driver) → Apart m d (sendServed m d)
-unfolding sendServed
-send-apart m d =
-    by-test (Apart m d) _
-    (λ _. record { chip = alike m; expects = refl })
-    (λ _. apart-from (status-alike m) (answered-apart (value 0x2A m) (seen 0x2A m) d))
+pub sending-alike : {m n : Model} → Touches Sending m n → Alike m n
+sending-alike = touches-by Alike alike (λ _ _ _ x y. alike-then x y) sent-read sent-write

@@ -23,7 +23,8 @@ use Rattle.state.specs.declared.Wait.the-variants.{Nothing, Data}
 use Rattle.state.specs.declared.Chip.{Chip}
 use Rattle.state.specs.State.{Model}
 use Rattle.state.specs.Set.{withReceiver}
-use Rattle.settings.specs.Settings.{operational, numbered}
+use Rattle.settings.specs.Settings.{operational}
+use Rattle.window.specs.Window.{numbered}
 use Rattle.answer.specs.declared.Out.{Out}
 use Rattle.answer.specs.Answer.{silent}
 use Rattle.ends.specs.Ends.{idled, endedIn, ended}
@@ -32,20 +33,17 @@ use Rattle.step.specs.Step.{dataStep, dataStepBytes, stepOf, stepBytes}
 use Rattle.typed.specs.Typed.{Typed, TypedReceiver}
 use Rattle.typed.specs.Next.{next}
 use Rattle.typed.proofs.At.{receiver-same}
+use Rattle.typed.proofs.Steps.{judged-by}
 use Rattle.driving.proofs.Packet.{held}
 use Rattle.world.specs.World.{answerTo, isAck}
-use Rattle.standing.specs.Standing.{endpoint}
+use Rattle.frame.specs.Place.{endpoint}
 use Rattle.receivepipe.proofs.Storing.{Ready, Shut, Stores, sound-judged, sound-stores, unsound-judged, unsound-shuts, shut-judged, shut-received, shut-bytes}
 use Rattle.receivepipe.proofs.Alike.{rx, Alike}
 
 -- what is answered to data changes no receiver, and is an ACK where it is judged so
 judged-receivers : (j : Judged) (k : FifoNumber) (c : Chip) → judgedAt j k c .chip .receivers ≡ c .receivers
 unfolding markedOut overrun
-judged-receivers verdict.Silence k c = refl
-judged-receivers verdict.Nak k c = refl
-judged-receivers verdict.Stall k c = refl
-judged-receivers verdict.Overrun k c = refl
-judged-receivers verdict.Ack k c = refl
+judged-receivers j k c = judged-by (λ (n : Chip). n .receivers ≡ c .receivers) c refl j k refl refl
 
 judged-ack : (j : Judged) (k : FifoNumber) (c : Chip) → isAck (judgedAt j k c .answer) ≡ judging.isAck j
 unfolding isAck
@@ -99,7 +97,7 @@ module _ (m : Model) (on : operational (m .chip) ≡ true) (p q : ℕ) (s : List
         let n : Chip = idled (withReceiver (numbered 1) r c) in
         ap (λ (o : Out). rx (record { chip = o .chip; memory = [] })) step-is
         ∙ rw (judged-receivers (judged (eqb q 1) (length s) (rx m)) (numbered 1) n)
-        (receiver-same (numbered 1) (numbered 1) r c (typed .chip) refl)
+        (receiver-same (numbered 1) r c (typed .chip .receivers .sized))
 
     pub due-bytes : held (next (event.Data p q) s m)
         ≡ rxContents (numbered 1) (received (eqb p 1) (eqb q 1) s (rx m) .fifo) (receivedBytes (numbered 1) (eqb q 1) s (rx m) (m .memory))

@@ -10,9 +10,10 @@ use Rattle.answer.specs.declared.Answer.{Answer}
 use Rattle.answer.specs.declared.Answer.the-variants as answer
 use Rattle.world.specs.Host.{Packet, Open, over, fails, Host}
 use Rattle.world.specs.World.{World, ifSo, goes, sees, hostIn, hostOut}
+use Rattle.world.specs.Lists.{waits}
 use Rattle.driving.proofs.Packet.{held}
 use Rattle.receivepipe.proofs.Tally.{due, Tally, stored-unseen, stored-seen, taken-tally, none-tally, up-tally}
-use Rattle.receivepipe.proofs.Storing.{Ready, Shut, Shape, waits, ready-waits, err-waits, Stores}
+use Rattle.receivepipe.proofs.Storing.{Ready, Shut, Shape, ready-waits, err-waits, Stores}
 use Rattle.receivepipe.proofs.Alike.{rx}
 
 -- endpoint 2 with its bytes, the toggle that the driver expects, the host, packets taken and packets known delivered

@@ -1,7 +1,7 @@
 -- After any run the receiver has exactly the packets the host knows delivered, in order and once each, or those plus the one packet the host
 -- still holds.
 -- Assumes nothing.
-use Prim.Native.Nat.{ℕ, _+_}
+use Prim.Native.Nat.{ℕ}
 use mathlib.Core.Path.{_≡_, refl, sym, ap, _∙_}
 use mathlib.Core.Logic.{_⊎_, inl, inr}
 use mathlib.Core.Bool.{Bool, true, false}
@@ -47,7 +47,7 @@ start-flow p =
 pub acts-flow : (xs : List Action) (w : World) → AllBytes xs → Standing w → Flow w → Flow (acts xs w)
 unfolding acts AllBytes
 acts-flow [] w b s f = f
-acts-flow (x ∷ xs) w b s f = acts-flow xs (act x w) (b .1) (act-stands x w (b .0) s) (act-flows x w s f)
+acts-flow (x ∷ xs) w b s f = acts-flow xs (act x w) (b .1) (act-stands x w (b .0) s) (act-flows x w (b .0) s f)
 
 pub reached-flow : (p : Pipes) (xs : List Action) → startable (p .a) (p .e) (p .f) ≡ true → AllBytes xs → Flow (acts xs (startWorld p))
 reached-flow p xs h b = acts-flow xs (startWorld p) b (start-stands p h) (start-flow p)

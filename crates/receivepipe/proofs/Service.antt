@@ -10,12 +10,12 @@ use lib.Dec.{eqb}
 use Rattle.choice.specs.Choice.{pick}
 use Rattle.choice.proofs.ByTest.{by-test}
 use Rattle.ring.specs.Ring.{level}
-use Rattle.rxfifo.specs.Receive.{rxContents}
 use Rattle.epc.specs.Bits.{bitOf, has}
 use Rattle.receiver.specs.declared.Receiver.{Receiver}
 use Rattle.receiver.specs.Receiver.{statusOf, cleared, flushed, command, takeByte}
 use Rattle.state.specs.State.{Model}
-use Rattle.settings.specs.Settings.{operational, numbered}
+use Rattle.settings.specs.Settings.{operational}
+use Rattle.window.specs.Window.{numbered}
 use Rattle.reads.specs.Read.{readOf, receiverRead}
 use Rattle.writes.specs.Write.{writeOf, receiverWrite}
 use Rattle.typed.proofs.At.{receiver-same}
@@ -25,12 +25,12 @@ use Rattle.driver.specs.declared.Did.the-variants as did
 use Rattle.driver.specs.Registers.{written, value, seen}
 use Rattle.driver.specs.Driver.{Call}
 use Rattle.receiving.specs.Receive.{Taking, taken, rounds, allTaken, flushing, accepting, judged, receiveServed, received}
-use Rattle.receiving.proofs.Level.{level-seen, level-shown}
 use Rattle.driving.proofs.Kept.{Sound, read-sound}
-use Rattle.driving.proofs.Packet.{held, takes-all}
+use Rattle.driving.proofs.Packet.{held, rxs-held, shown-still, takes-all}
 use Rattle.world.specs.World.{same, isTaken}
+use Rattle.world.specs.Lists.{waits}
 use Rattle.receivepipe.proofs.Tally.{due}
-use Rattle.receivepipe.proofs.Storing.{Ready, Shape, waits, err-waits}
+use Rattle.receivepipe.proofs.Storing.{Ready, Shape, err-waits}
 use Rattle.receivepipe.proofs.Alike.{rx}
 
 -- ---- RXS
@@ -78,18 +78,15 @@ module _ (m : Model) where
 module _ (m : Model) (s : Sound m) where
   rxs-state : rx (seen 0x2E m) ≡ cleared (rx m)
   unfolding seen readOf receiverRead pick
-  rxs-state = receiver-same (numbered 1) (numbered 1) (cleared (rx m)) (m .chip) (s .typed .chip) refl
+  rxs-state = receiver-same (numbered 1) (cleared (rx m)) (m .chip) (s .typed .chip .receivers .sized)
 
   rxd-state : rx (seen 0x2D m) ≡ takeByte (numbered 1) (rx m) (m .memory) .receiver
   unfolding seen readOf receiverRead pick
-  rxd-state = receiver-same (numbered 1) (numbered 1) (takeByte (numbered 1) (rx m) (m .memory) .receiver) (m .chip) (s .typed .chip) refl
+  rxd-state = receiver-same (numbered 1) (takeByte (numbered 1) (rx m) (m .memory) .receiver) (m .chip) (s .typed .chip .receivers .sized)
 
   rxc-state : (v : ℕ) → rx (written 0x2F v m) ≡ command (operational (m .chip)) v (rx m)
   unfolding written writeOf receiverWrite pick
-  rxc-state v = receiver-same (numbered 1) (numbered 1) (command (operational (m .chip)) v (rx m)) (m .chip) (s .typed .chip) refl
-
-  rxs-held : held (seen 0x2E m) ≡ held m
-  rxs-held = unfold seen in (ap (λ (r : Receiver). rxContents (numbered 1) (r .fifo) (m .memory)) rxs-state)
+  rxc-state v = receiver-same (numbered 1) (command (operational (m .chip)) v (rx m)) (m .chip) (s .typed .chip .receivers .sized)
 
 -- in the operational state, and neither flag
 record Clear (m : Model) : Type 0 where
@@ -193,12 +190,11 @@ module _ (m : Model) (d : Driver) (s : Sound m) (on : operational (m .chip) ≡ 
   accept-served wait =
       let n : Model = seen 0x2E m in
       let k : Clear n = rxs-clear m s on in
-      let shown : value 0x2E m % 16 ≡ min (received (n .chip)) 15 = level-shown m ∙ ap (λ (i : ℕ). min i 15) (sym (level-seen m)) in
-      let all : _ = takes-all n (value 0x2E m % 16) (k .sound) shown in
+      let all : _ = takes-all n (value 0x2E m % 16) (k .sound) (shown-still m) in
       record {
         ready = enable-ready (allTaken (value 0x2E m % 16) n .model) (rounds-clear 65 (value 0x2E m % 16) n k) (all .1);
         took = sym wait;
-        packet = λ _. sym (all .0) ∙ rxs-held m s;
+        packet = λ _. sym (all .0) ∙ rxs-held m;
         expects = rw wait;
       }
 

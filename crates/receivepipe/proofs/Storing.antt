@@ -21,6 +21,7 @@ use Rattle.verdict.specs.Verdict.{heard}
 use Rattle.receiver.specs.declared.Receiver.{Receiver}
 use Rattle.receiver.specs.Receiver.{withFifo, good, judged, received, receivedBytes}
 use Rattle.world.specs.World.{same}
+use Rattle.world.specs.Lists.{waits}
 
 -- RX_EN set, no flag, no byte
 pub record Ready (r : Receiver) : Type 0 where
@@ -37,10 +38,7 @@ pub record Shut (r : Receiver) : Type 0 where
 abbrev pub Shape : Receiver → Type 0
 Shape r = Ready r ⊎ Shut r
 
--- a packet that the driver will take: RX_LAST, no RX_ERR, TOGGLE as expected
-abbrev pub waits : Receiver → Bool → Bool
-waits r x = r .last && not (r .err) && same (r .toggle) x
-
+-- no packet that the driver will take
 pub ready-waits : (r : Receiver) (x : Bool) → Ready r → waits r x ≡ false
 ready-waits r x h = rw (h .last)
 

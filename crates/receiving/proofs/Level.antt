@@ -11,7 +11,7 @@ use borrow.Author.Tests.{leb-true, eqb-true, eqb-false}
 use Rattle.choice.specs.Choice.{pick}
 use Rattle.choice.proofs.ByTest.{by-test}
 use Rattle.window.specs.declared.FifoNumber.{FifoNumber}
-use Rattle.window.specs.Window.{indexOf}
+use Rattle.window.specs.Window.{indexOf, numbered}
 use Rattle.ring.specs.Ring.{next, level}
 use Rattle.rxfifo.specs.declared.RxFifo.{RxFifo}
 use Rattle.rxfifo.specs.declared.TakenRx.{TakenRx}
@@ -22,7 +22,7 @@ use Rattle.receiver.specs.Receiver as receiver
 use Rattle.control.specs.State as control
 use Rattle.state.specs.declared.Chip.{Chip}
 use Rattle.state.specs.State.{Model, receiverAt}
-use Rattle.settings.specs.Settings.{operational, numbered}
+use Rattle.settings.specs.Settings.{operational}
 use Rattle.formed.specs.Formed.{sendersWell, receiversWell, registersWell, pendingWell, wellFormed}
 use Rattle.reads.specs.declared.ReadOut.{ReadOut}
 use Rattle.reads.specs.Read.{readOf, receiverRead}

@@ -13,7 +13,7 @@ use Rattle.ring.specs.Ring.{level}
 use Rattle.epc.specs.Bits.{bitOf, has}
 use Rattle.state.specs.declared.Chip.{Chip}
 use Rattle.state.specs.State.{Model, receiverAt}
-use Rattle.settings.specs.Settings.{numbered}
+use Rattle.window.specs.Window.{numbered}
 use Rattle.formed.specs.Formed.{wellFormed}
 use Rattle.driver.specs.declared.Driver.{Driver}
 use Rattle.driver.specs.declared.Did.{Did}

@@ -2,7 +2,7 @@
 -- both lists equal, that packet at the end of each."
 -- Assumes nothing.
 use mathlib.Core.Path.{_≡_, refl, sym, subst, _∙_}
-use mathlib.Core.Bool.{true, false, false≢true}
+use mathlib.Core.Bool.{true, false≢true}
 use mathlib.Core.List.{List, [], _∷_, _++_}
 use Rattle.choice.specs.Choice.{pick}
 use Rattle.choice.proofs.ByTest.{by-test}

@@ -1,45 +1,45 @@
 -- The driver's calls on endpoint 1: an offer arms it, the send service reads TXS and resends, the receive service leaves it as it was.
 -- Assumes nothing.
-use Prim.Native.Nat.{ℕ, zero, suc, _%_, _≤_}
+use Prim.Native.Nat.{ℕ, _≤_, _<_}
 use mathlib.Core.Path.{_≡_, refl, ap, _∙_}
-use mathlib.Core.Bool.{Bool, true, false, not, _&&_}
+use mathlib.Core.Bool.{Bool, true, false}
 use mathlib.Core.List.{[]}
 use lib.ListN.{length}
 use lib.Dec.{eqb}
 use Rattle.choice.specs.Choice.{pick}
-use Rattle.choice.proofs.ByTest.{by-test}
 use Rattle.contents.proofs.Ring.{Counters}
 use Rattle.event.specs.declared.Event.the-variants as event
+use Rattle.epc.specs.Bits.{has}
 use Rattle.sender.specs.declared.Sender.{Sender}
 use Rattle.sender.specs.Sender.{cleared, command}
 use Rattle.state.specs.declared.Chip.{Chip}
 use Rattle.state.specs.State.{Model}
 use Rattle.state.specs.Set.{withSender}
-use Rattle.settings.specs.Settings.{operational, numbered}
+use Rattle.settings.specs.Settings.{operational}
+use Rattle.window.specs.Window.{numbered}
 use Rattle.step.specs.Step.{readStep, writeStep, stepOf, stepBytes}
-use Rattle.formed.specs.Formed.{wellFormed}
 use Rattle.frame.specs.Place.{Place, awaited, Same}
 use Rattle.frame.specs.Owner.{registerOwner, slotPlace, owner, exempt}
 use Rattle.frame.proofs.Parts.{stays-then}
 use Rattle.frame.proofs.Frame.{same, frame}
 use Rattle.typed.specs.Typed.{Typed}
+use Rattle.typed.proofs.At.{sender-same}
 use Rattle.driver.specs.declared.Driver.{Driver}
-use Rattle.driver.specs.declared.Did.{Did}
-use Rattle.driver.specs.declared.Did.the-variants as did
 use Rattle.driver.specs.Registers.{whole, written, writtenAll, value, seen}
-use Rattle.driver.specs.Driver.{Call, call, armed, again, accepted, answered, sendServed}
-use Rattle.receiving.specs.Receive.{Taking, taken, rounds, flushing, accepting, judged, receiveServed}
+use Rattle.driver.specs.Driver.{armed, again, accepted}
+use Rattle.driving.specs.Touches.{Touches, Receiving, rxd, rxs, rxc}
+use Rattle.driving.proofs.Reached.{touches-by}
 use Rattle.world.specs.Host.{Packet}
 use Rattle.sendpipe.specs.Stage.{View, viewOf, Idle, Armed, Waiting, Acked, Failed}
 use Rattle.sendpipe.proofs.Fifo.{viewAs, resent-arms, offer-arms, shows-done, shows-ack}
-use Rattle.sendpipe.proofs.Chip.{first, Sized, put-found, put-sized, txc-written, all-put, txs-value, txs-seen}
+use Rattle.sendpipe.proofs.Chip.{first, Sized, put-sized, txc-written, all-put, txs-value, txs-seen}
 use Rattle.sendpipe.proofs.Token.{one}
 
 -- endpoint 1 put
 put-view : (x : Sender) (m : Model) → Sized (m .chip)
     → _≡_ {A = View} (viewOf (whole (withSender (numbered 1) x (m .chip)) (m .memory))) (viewAs x (awaited one (m .chip)) (m .chip .pending .holds) (m .memory))
 unfolding awaited
-put-view x m l = rw (put-found x (m .chip) l) refl
+put-view x m l = rw (sender-same (numbered 1) x (m .chip) l) refl
 
 -- ---- TXC1
 
@@ -81,19 +81,12 @@ module _ (m : Model) (l : Sized (m .chip)) where
 pub seen-on : (m : Model) → operational (seen 0x2A m .chip) ≡ operational (m .chip)
 seen-on m = rw (txs-seen m) refl
 
--- what the service does, by the flags
-abbrev pub served : Bool → Bool → Model → Driver → Call
-served done ack n d =
-    pick (d .held && done)
-    (pick ack
-    (call n (record { held = false; sends = not (d .sends); expects = d .expects }) did.Delivered)
-    (call (written 0x2B (again (d .sends)) n) d did.Resent))
-    (call n d did.Nothing)
+-- what TXS shows
+pub txs-done : (m : Model) → has 0x20 (value 0x2A m) ≡ first (m .chip) .done
+txs-done m = rw (txs-value m) (shows-done (first (m .chip)))
 
-pub send-is : (m : Model) (d : Driver) → wellFormed (m .chip) ≡ true
-    → sendServed m d ≡ served (first (m .chip) .done) (first (m .chip) .ack) (seen 0x2A m) d
-unfolding sendServed answered pick
-send-is m d well = rw (well, txs-value m, shows-done (first (m .chip)), shows-ack (first (m .chip)))
+pub txs-ack : (m : Model) → has 0x40 (value 0x2A m) ≡ first (m .chip) .ack
+txs-ack m = rw (txs-value m) (shows-ack (first (m .chip)))
 
 -- the flags are clear after the read
 module _ (m : Model) (l : Sized (m .chip)) where
@@ -147,57 +140,17 @@ module _ (m : Model) (l : Sized (m .chip)) where
 
 -- ---- the receive service
 
-pub same-then : (p : Place) {a b c : Model} → Same p a b → Same p b c → Same p a c
+same-then : (p : Place) {a b c : Model} → Same p a b → Same p b c → Same p a c
 same-then p x y = record { endpoint = stays-then p (x .endpoint) (y .endpoint); bytes = y .bytes ∙ x .bytes }
 
-module _ (m : Model) where
-  rxd-same : Same one m (seen 0x2D m)
-  unfolding seen stepOf stepBytes readStep owner registerOwner slotPlace exempt pick
-  rxd-same = frame (event.Read 0x2D) [] m one refl refl
+received-read : (a : ℕ) (m : Model) → Receiving (event.Read a) → Same one m (seen a m)
+unfolding seen stepOf stepBytes readStep owner registerOwner slotPlace exempt pick
+received-read a m rxd = frame (event.Read 0x2D) [] m one refl refl
+received-read a m rxs = frame (event.Read 0x2E) [] m one refl refl
 
-  rxs-same : Same one m (seen 0x2E m)
-  unfolding seen stepOf stepBytes readStep owner registerOwner slotPlace exempt pick
-  rxs-same = frame (event.Read 0x2E) [] m one refl refl
+received-write : (a v : ℕ) (m : Model) → Receiving (event.Write a v) → v < 256 → Same one m (written a v m)
+unfolding written stepOf stepBytes writeStep owner registerOwner slotPlace exempt pick
+received-write a v m (rxc x) b = frame (event.Write 0x2F x) [] m one refl refl
 
-  rxc-same : (v : ℕ) → Same one m (written 0x2F v m)
-  unfolding written stepOf stepBytes writeStep owner registerOwner slotPlace exempt pick
-  rxc-same v = frame (event.Write 0x2F v) [] m one refl refl
-
-taken-same : (n : ℕ) (m : Model) → Same one m (taken n m .model)
-unfolding taken
-taken-same zero m = same one m
-taken-same (suc n) m = same-then one (rxd-same m) (taken-same n (seen 0x2D m))
-
-rounds-same : (most count : ℕ) (m : Model) → Same one m (rounds most count m .model)
-unfolding rounds
-rounds-same zero count m = same one m
-rounds-same (suc most) count m =
-    by-test (λ (t : Taking). Same one m (t .model)) _ (λ _. same one m) (λ _.
-    let n : Model = taken count m .model in
-    same-then one (taken-same count m) (same-then one (rxs-same n) (rounds-same most (value 0x2E n % 16) (seen 0x2E n))))
-
--- what the receive service leaves of the sending half
-pub record Apart (m : Model) (d : Driver) (x : Call) : Type 0 where
-  pub model : Same one m (x .model)
-  pub held : x .driver .held ≡ d .held
-  pub sends : x .driver .sends ≡ d .sends
-
-flushed-apart : (why : Did) (m : Model) (d : Driver) → Apart m d (flushing why m d)
-unfolding flushing
-flushed-apart why m d = record { model = rxc-same m 0x09; held = refl; sends = refl }
-
-judged-apart : (status : ℕ) (m : Model) (d : Driver) → Apart m d (judged status m d)
-unfolding judged accepting
-judged-apart status m d =
-    by-test (Apart m d) _ (λ _. flushed-apart did.Flushed m d) (λ _.
-    by-test (Apart m d) _ (λ _.
-    by-test (Apart m d) _
-    (λ _. record { model = same-then one (rounds-same 65 (status % 16) m) (rxc-same _ 0x01); held = refl; sends = refl })
-    (λ _. flushed-apart did.Repeat m d)) (λ _. record { model = same one m; held = refl; sends = refl }))
-
-pub receive-apart : (m : Model) (d : Driver) → Apart m d (receiveServed m d)
-unfolding receiveServed
-receive-apart m d =
-    by-test (Apart m d) _ (λ _. record { model = same one m; held = refl; sends = refl }) (λ _.
-    let j : _ = judged-apart (value 0x2E m) (seen 0x2E m) d in
-    record { model = same-then one (rxs-same m) (j .model); held = j .held; sends = j .sends })
+pub receiving-same : {m n : Model} → Touches Receiving m n → Same one m n
+receiving-same = touches-by (Same one) (same one) (λ _ _ _ x y. same-then one x y) received-read received-write

@@ -1,30 +1,29 @@
 -- Endpoint 1 in the chip: the driver's accesses of its registers, as changes of its state and its window.
 -- Assumes nothing.
 use Prim.Native.Nat.{ℕ}
-use native.Mathlib.Omega.{arith}
 use mathlib.Core.Path.{_≡_, refl, sym, ap, _∙_}
 use mathlib.Core.Bool.{true, false, false≢true}
 use mathlib.Core.List.{List, [], _∷_}
 use lib.ListN.{length, length-set}
-use lib.Seq.{getD-set-same}
 use borrow.Author.Tests.{ne-eqb}
 use Rattle.choice.specs.Choice.{pick}
-use Rattle.window.specs.Window.{indexOf}
+use Rattle.window.specs.Window.{indexOf, numbered}
 use Rattle.txfifo.specs.Transmit.{putTx, putTxBytes}
 use Rattle.contents.proofs.Transmit.{putAllTx, putAllTxBytes}
 use Rattle.sender.specs.declared.Sender.{Sender}
-use Rattle.sender.specs.Sender.{resetSender, withFifo, statusOf, cleared, command}
+use Rattle.sender.specs.Sender.{withFifo, statusOf, cleared, command}
 use Rattle.state.specs.declared.Endpoint.{Endpoint}
 use Rattle.state.specs.declared.Wait.{Wait}
 use Rattle.state.specs.declared.Wait.the-variants as wait
 use Rattle.state.specs.declared.Chip.{Chip}
 use Rattle.state.specs.State.{Model, senderAt}
 use Rattle.state.specs.Set.{withSender}
-use Rattle.settings.specs.Settings.{operational, numbered, awaitsIn, awaits}
+use Rattle.settings.specs.Settings.{operational, awaitsIn, awaits}
 use Rattle.slot.specs.Slot.{sending}
 use Rattle.reads.specs.Read.{readOf, senderRead}
 use Rattle.writes.specs.Write.{senderCommand, senderWrite, senderBytes, writeOf, bytesOf}
 use Rattle.frame.specs.Place.{sends, sendingPlace, isOwner, awaitedOf, awaited}
+use Rattle.typed.proofs.At.{sender-same}
 use Rattle.driver.specs.Registers.{whole, written, writtenAll, value, seen}
 
 abbrev pub first : Chip → Sender
@@ -32,11 +31,6 @@ first c = senderAt (numbered 1) c
 
 abbrev pub Sized : Chip → Type 0
 Sized c = length (c .senders) ≡ 3
-
--- endpoint 1 put is endpoint 1 found
-pub put-found : (x : Sender) (c : Chip) → Sized c → first (withSender (numbered 1) x c) ≡ x
-unfolding indexOf pick
-put-found x c l = getD-set-same (c .senders) 0 x resetSender (omega arith)
 
 pub put-sized : (x : Sender) (c : Chip) → Sized c → Sized (withSender (numbered 1) x c)
 put-sized x c l = length-set (c .senders) _ x ∙ l
@@ -87,7 +81,7 @@ all-put (b ∷ p) m l =
     let s : Sender = first (m .chip) in
     let t : Sender = withFifo (putTx (s .fifo)) s in
     let n : Model = whole (withSender (numbered 1) t (m .chip)) (putTxBytes (numbered 1) (s .fifo) b (m .memory)) in
-    let f : first (n .chip) ≡ t = put-found t (m .chip) l in
+    let f : first (n .chip) ≡ t = sender-same (numbered 1) t (m .chip) l in
     let r : _ = all-put p n (put-sized t (m .chip) l) in
     rw (txd-written b m) (record {
       sender = r .sender ∙ ap (λ (x : Sender). withFifo (putAllTx p (x .fifo)) x) f;

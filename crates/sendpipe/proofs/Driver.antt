@@ -3,7 +3,7 @@
 use Prim.Native.Nat.{suc, _-_, _≤_}
 use native.Mathlib.Omega.{arith}
 use mathlib.Core.Path.{_≡_, refl, sym, ap, _∙_}
-use mathlib.Core.Bool.{Bool, true, false, not, _&&_, false≢true}
+use mathlib.Core.Bool.{true, false, not, _&&_, false≢true, and-false}
 use mathlib.Core.List.{List, [], _∷_, _++_, append-nil}
 use lib.ListN.{length, getD}
 use lib.Dec.{ltb}
@@ -15,15 +15,16 @@ use Rattle.state.specs.State.{Model}
 use Rattle.formed.specs.Formed.{wellFormed}
 use Rattle.frame.proofs.Frame.{same}
 use Rattle.driver.specs.declared.Did.the-variants as did
-use Rattle.driver.specs.Registers.{written, seen}
-use Rattle.driver.specs.Driver.{Call, call, again, accepted, admission, offeredBy, offered}
+use Rattle.driver.specs.Registers.{written, value, seen}
+use Rattle.driver.specs.Driver.{Call, call, again, accepted, admission, offeredBy, offered, answered, sendServed}
+use Rattle.driving.proofs.Reached.{receive-reaches}
 use Rattle.world.specs.Host.{Packet}
 use Rattle.world.specs.World.{World, ifSo, offersMore, deliversMore, held, isDone, isDelivered, called, actOffer, actSend, actReceive}
 use Rattle.standing.specs.Standing.{Standing}
 use Rattle.sendpipe.specs.Stage.{before, Holding, IdleAt, ArmedAt, WaitingAt, AckedAt, FailedAt, Stage, idle, armed, waiting, acked, failed}
 use Rattle.sendpipe.proofs.Chip.{first, Sized}
 use Rattle.sendpipe.proofs.Token.{one}
-use Rattle.sendpipe.proofs.Calls.{offered-arms, served, send-is, idle-seen, acked-seen, armed-seen, waiting-seen, failed-again, receive-apart}
+use Rattle.sendpipe.proofs.Calls.{offered-arms, txs-done, txs-ack, idle-seen, acked-seen, armed-seen, waiting-seen, failed-again, receiving-same}
 use Rattle.sendpipe.proofs.Keeps.{Rest, before-rest, after-rest, told-rest, holding-rest, by-same, stage-keeps}
 
 -- ---- the packet that is held
@@ -92,11 +93,10 @@ stage-offer p w s x =
 abbrev Serves : (World → Type 0) → World → Call → Type 0
 Serves P w x = P (called x (deliversMore (pick (isDelivered (x .did)) (held w) []) (w .lists)) w)
 
--- by the flags that TXS shows
 served-by : (P : World → Type 0) (w : World) → Standing w
-    → Serves P w (served (first (w .model .chip) .done) (first (w .model .chip) .ack) (seen 0x2A (w .model)) (w .driver)) → P (actSend w)
-unfolding actSend
-served-by P w s x = rw (send-is (w .model) (w .driver) (s .set-up .well)) x
+    → Serves P w (answered (value 0x2A (w .model)) (seen 0x2A (w .model)) (w .driver)) → P (actSend w)
+unfolding actSend sendServed pick
+served-by P w s x = rw (s .set-up .well) x
 
 module _ (w : World) (n : Model) where
   -- the driver and the lists as they were, but for nothing more at the end of one
@@ -116,34 +116,26 @@ module _ (w : World) (s : Standing w) where
     -- TX_DONE is not shown, or nothing is held
     nothing-served : (w .driver .held && first (w .model .chip) .done) ≡ false
         → P (called (call (seen 0x2A (w .model)) (w .driver) did.Nothing) (deliversMore [] (w .lists)) w) → P (actSend w)
-    unfolding isDelivered pick
-    nothing-served e x = served-by P w s (rw e x)
+    unfolding answered isDelivered pick
+    nothing-served e x = served-by P w s (rw (txs-done (w .model), e) x)
 
     resent-served : (w .driver .held && first (w .model .chip) .done) ≡ true → first (w .model .chip) .ack ≡ false
         → P (called (call (written 0x2B (again (w .driver .sends)) (seen 0x2A (w .model))) (w .driver) did.Resent) (deliversMore [] (w .lists)) w)
         → P (actSend w)
-    unfolding isDelivered pick
-    resent-served e f x = served-by P w s (rw (e, f) x)
+    unfolding answered isDelivered pick
+    resent-served e f x = served-by P w s (rw (txs-done (w .model), txs-ack (w .model), e, f) x)
 
     delivered-served : (w .driver .held && first (w .model .chip) .done) ≡ true → first (w .model .chip) .ack ≡ true
         → P (called (call (seen 0x2A (w .model)) (record { held = false; sends = not (w .driver .sends); expects = w .driver .expects }) did.Delivered) (deliversMore (held w) (w .lists)) w)
         → P (actSend w)
-    unfolding isDelivered pick
-    delivered-served e f x = served-by P w s (rw (e, f) x)
+    unfolding answered isDelivered pick
+    delivered-served e f x = served-by P w s (rw (txs-done (w .model), txs-ack (w .model), e, f) x)
 
   no-done : first (w .model .chip) .done ≡ false → (w .driver .held && first (w .model .chip) .done) ≡ false
-  no-done e = go (w .driver .held) (first (w .model .chip) .done) e
-    where
-      go : (b d : Bool) → d ≡ false → (b && d) ≡ false
-      go true d q = q
-      go false d q = refl
+  no-done e = rw e (and-false (w .driver .held))
 
   both : w .driver .held ≡ true → first (w .model .chip) .done ≡ true → (w .driver .held && first (w .model .chip) .done) ≡ true
-  both h e = go (w .driver .held) (first (w .model .chip) .done) h e
-    where
-      go : (b d : Bool) → b ≡ true → d ≡ true → (b && d) ≡ true
-      go true d q r = r
-      go false d q r = q
+  both h e = rw (h, e)
 
   -- Nothing is held: nothing.
   pub send-idle : IdleAt w → IdleAt (actSend w)
@@ -215,9 +207,9 @@ module _ (w : World) (s : Standing w) where
 pub stage-receive : (w : World) → Stage w → Stage (actReceive w)
 unfolding actReceive called
 stage-receive w x =
-    let a : _ = receive-apart (w .model) (w .driver) in
+    let r : _ = receive-reaches (w .model) (w .driver) in
     stage-keeps w _ (record {
-      model = by-same _ _ (a .model);
-      rest = record { held = a .held; sends = a .sends; expects = refl; offers = refl; delivered = refl; got = refl };
+      model = by-same _ _ (receiving-same (r .touches));
+      rest = record { held = r .keeps .0; sends = r .keeps .1; expects = refl; offers = refl; delivered = refl; got = refl };
       acking = λ h. h;
     }) x

@@ -6,7 +6,7 @@ use mathlib.Core.Bool.{Bool, true, false}
 use mathlib.Core.List.{List, []}
 use Rattle.choice.specs.Choice.{pick}
 use Rattle.window.specs.declared.Kind.the-variants as kind
-use Rattle.window.specs.Window.{startOf}
+use Rattle.window.specs.Window.{startOf, numbered}
 use Rattle.contents.proofs.Ring.{sixtyFour}
 use Rattle.contents.proofs.Windows.{contents-window}
 use Rattle.event.specs.declared.Event.the-variants as event
@@ -15,17 +15,17 @@ use Rattle.sender.specs.Sender.{handshake}
 use Rattle.state.specs.declared.Wait.the-variants as wait
 use Rattle.state.specs.declared.Chip.{Chip}
 use Rattle.state.specs.State.{Model}
-use Rattle.settings.specs.Settings.{operational, numbered}
+use Rattle.settings.specs.Settings.{operational}
 use Rattle.ends.specs.Ends.{idled, senderByte, endedSender, endedAt}
 use Rattle.step.specs.Step.{quiet, endStep, stepOf, stepBytes}
-use Rattle.frame.specs.Place.{sends, Same}
+use Rattle.frame.specs.Place.{endpoint, sends, Same}
 use Rattle.frame.proofs.Waits.{quiet-free}
 use Rattle.typed.specs.Next.{next}
-use Rattle.standing.specs.Standing.{endpoint}
+use Rattle.typed.proofs.At.{sender-same}
 use Rattle.world.specs.Host.{Packet}
 use Rattle.sendpipe.specs.Stage.{viewOf, between, Spent, Idle, Armed, Waiting, Acked, Failed}
 use Rattle.sendpipe.proofs.Fifo.{viewAs, acked-ends, failed-ends}
-use Rattle.sendpipe.proofs.Chip.{first, Sized, put-found}
+use Rattle.sendpipe.proofs.Chip.{first, Sized}
 
 -- ---- left as it was
 
@@ -85,7 +85,7 @@ module _ (m m′ : Model) (k : Same (sends (numbered 1)) m m′) where
 module _ (acked : Bool) (c : Chip) (l : Sized c) (w : c .pending .wait ≡ wait.Handshake (endpoint 1)) (unheld : c .pending .holds ≡ false) where
   quiet-first : first (quiet acked c) ≡ handshake acked (first c)
   unfolding quiet endedAt endedSender idled senderByte pick
-  quiet-first = rw (w, unheld) (put-found (handshake acked (first c)) c l)
+  quiet-first = rw (w, unheld) (sender-same (numbered 1) (handshake acked (first c)) c l)
 
 module _ (p : Packet) (m : Model) (on : operational (m .chip) ≡ true) (l : Sized (m .chip)) (w : m .chip .pending .wait ≡ wait.Handshake (endpoint 1))
     (x : Waiting p (viewOf m)) where

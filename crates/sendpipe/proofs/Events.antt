@@ -3,8 +3,9 @@
 use Prim.Native.Nat.{ℕ}
 use mathlib.Core.Path.{_≡_, refl, sym, _∙_}
 use mathlib.Core.Logic.{inl, inr}
-use mathlib.Core.Bool.{Bool, true, false, not, _&&_, false≢true, and-eq-true-iff}
+use mathlib.Core.Bool.{true, false, not, _&&_, false≢true, and-eq-true-iff, and-false}
 use mathlib.Core.List.{List, []}
+use borrow.Author.Tests.{not-true}
 use Rattle.choice.specs.Choice.{pick}
 use Rattle.choice.proofs.ByTest.{by-test}
 use Rattle.event.specs.declared.Event.{Event}
@@ -66,11 +67,7 @@ stage-happens e s h l w k a b f g i x =
     }) x
 
 no-cut : (c : Chip) → awaited one c ≡ false → cut c one ≡ false
-no-cut c free = go (operational c) (awaited one c) free
-  where
-    go : (b d : Bool) → d ≡ false → (b && d) ≡ false
-    go true d q = q
-    go false d q = refl
+no-cut c free = rw free (and-false (operational c))
 
 cut-free : (e : Event) (c : Chip) → isAccess e ≡ false → awaited one c ≡ false → exempt e c one ≡ false
 unfolding exempt isAccess
@@ -100,10 +97,6 @@ stage-access t w x =
     let a : _ = and-eq-true-iff (isAccess t && not (reserved t)) (inRange t 0) .0 e in
     let b : _ = and-eq-true-iff (isAccess t) (not (reserved t)) .0 (a .0) in
     stage-happens t [] (w .host) (w .lists) w (unreserved-keeps t [] (w .model) one endpoint1 (b .0) (not-true (reserved t) (b .1))) refl (λ h. h) refl refl refl x) (λ _. x)
-  where
-    not-true : (b : Bool) → not b ≡ true → b ≡ false
-    not-true true e = sym e
-    not-true false e = refl
 
 -- ---- what is awaited, by what the host is at
 

@@ -10,17 +10,16 @@ use lib.Dec.{eqb}
 use borrow.Author.Tests.{le-leb, eq-eqb, ne-eqb}
 use Rattle.choice.specs.Choice.{pick}
 use Rattle.window.specs.declared.Kind.the-variants as kind
-use Rattle.window.specs.Window.{txSize, startOf}
+use Rattle.window.specs.Window.{txSize, startOf, numbered}
 use Rattle.ring.specs.Ring.{level}
 use Rattle.txfifo.specs.declared.TxFifo.{TxFifo}
 use Rattle.txfifo.specs.Transmit.{spendTx, refillTx, markTx}
-use Rattle.contents.proofs.Ring.{Counters, contents-none, level-length}
+use Rattle.contents.proofs.Ring.{level-self, Counters, contents-none, level-length}
 use Rattle.contents.proofs.Transmit.{putAllTx, putAllTxBytes, putAllTx-appends}
 use Rattle.epc.specs.Bits.{bitOf, has}
 use Rattle.sender.specs.declared.Sender.{Sender}
 use Rattle.sender.specs.declared.Sent.the-variants.{Nak, Data0, Data1}
 use Rattle.sender.specs.Sender.{statusOf, withFifo, withBits, handshake, moved, marked, command, answerIn, sent}
-use Rattle.settings.specs.Settings.{numbered}
 use Rattle.answer.specs.Answer.{packetOf, packetAt}
 use Rattle.packet.specs.Packet.{packetBytes}
 use Rattle.driver.specs.Driver.{armed, again}
@@ -30,9 +29,6 @@ use Rattle.sendpipe.specs.Stage.{View, between, Spent, Armed, Waiting, A
 -- the view after a change
 abbrev pub viewAs : Sender → Bool → Bool → List ℕ → View
 viewAs s b h m = record { sender = s; awaits = b; holds = h; memory = m }
-
-self-level : (n : ℕ) → level n n ≡ 0
-self-level n = omega arith
 
 -- ---- an offer
 
@@ -97,7 +93,7 @@ pub sent-waits : (p : Packet) (t : Bool) (s : Sender) (b h : Bool) (m : List ℕ
 sent-waits p t s b h m no-stall a =
     rw (data-left s (a .enabled) no-stall (a .last)) (record {
       spent = record {
-        nothing = record { off = refl; empty = self-level (s .fifo .write) };
+        nothing = record { off = refl; empty = level-self (s .fifo .write) };
         fits = rw (a .marked) (omega (arith, a .fits));
         bytes = rw (a .marked) (a .bytes);
       };

@@ -11,4 +11,3 @@ pub mod Events
 pub mod Acts
 pub mod Always
 pub mod Again
-pub mod Delivers

@@ -1,15 +1,12 @@
 -- The IN of the pipe: endpoint 1 takes it, and answers NAK or the packet.
 -- Assumes nothing.
-use Prim.Native.Nat.{ℕ, _+_, _/_, _%_, _≤_}
-use native.Mathlib.Omega.{arith}
+use Prim.Native.Nat.{ℕ}
 use mathlib.Core.Path.{_≡_, refl, _∙_}
 use mathlib.Core.Bool.{Bool, true, false}
 use mathlib.Core.List.{List, []}
-use borrow.Author.Tests.{ne-eqb}
 use Rattle.choice.specs.Choice.{pick}
-use Rattle.window.specs.Window.{indexOf}
+use Rattle.window.specs.Window.{indexOf, numbered}
 use Rattle.event.specs.declared.Event.the-variants as event
-use Rattle.epc.specs.Bits.{has}
 use Rattle.sender.specs.declared.Sender.{Sender}
 use Rattle.sender.specs.declared.Sent.the-variants as sends
 use Rattle.sender.specs.Sender.{sent}
@@ -17,7 +14,6 @@ use Rattle.state.specs.declared.Wait.the-variants as wait
 use Rattle.state.specs.declared.Chip.{Chip}
 use Rattle.state.specs.State.{Model}
 use Rattle.state.specs.Set.{withSender}
-use Rattle.settings.specs.Settings.{numbered}
 use Rattle.answer.specs.declared.Answer.{Answer}
 use Rattle.answer.specs.declared.Answer.the-variants as answer
 use Rattle.answer.specs.declared.Packet as packet
@@ -25,24 +21,21 @@ use Rattle.answer.specs.Answer.{gives, packetAt}
 use Rattle.bus.specs.Bus.{awaiting, markedIn, answeredSender, inSender, inAt}
 use Rattle.step.specs.Step.{quiet, inStep, stepOf, stepBytes}
 use Rattle.frame.specs.Place as place
-use Rattle.frame.specs.Place.{Place, sendingPlace, awaited}
+use Rattle.frame.specs.Place.{endpoint, Place, sendingPlace, awaited}
 use Rattle.typed.specs.Next.{next}
-use Rattle.standing.specs.Standing.{endpoint, SetUp}
-use Rattle.standing.proofs.Reaches.{Ranges, in-reaches}
+use Rattle.typed.proofs.At.{sender-same}
+use Rattle.standing.specs.Standing.{SetUp}
+use Rattle.standing.proofs.Reaches.{Ranges, epc-unstalled, in-reaches}
 use Rattle.world.specs.World.{Pipes}
 use Rattle.world.specs.Host.{Packet}
 use Rattle.sendpipe.specs.Stage.{View, viewOf, Armed, Waiting}
 use Rattle.sendpipe.proofs.Fifo.{viewAs, nak-answer, nak-stays, data-answer, sent-waits}
-use Rattle.sendpipe.proofs.Chip.{first, Sized, put-found}
+use Rattle.sendpipe.proofs.Chip.{first, Sized}
 
 abbrev pub one : Place
 one = place.sends (numbered 1)
 
 -- ---- who takes it
-
--- 10+e has no STALL
-no-stall : (n : ℕ) → n ≤ 15 → has 128 (0x10 + n) ≡ false
-no-stall n le = ne-eqb ((0x10 + n) / 128 % 2) 1 (omega arith)
 
 -- the pipe as it was set up
 pub record Stands (p : Pipes) (c : Chip) : Type 0 where
@@ -52,7 +45,7 @@ pub record Stands (p : Pipes) (c : Chip) : Type 0 where
 
 module _ (p : Pipes) (c : Chip) (q : Stands p c) where
   pub unstalled : first c .epc .stall ≡ false
-  unstalled = rw (q .set-up .sends-as) (no-stall (p .e .0) (q .ranges .sends-high))
+  unstalled = rw (q .set-up .sends-as) (epc-unstalled (p .e .0) (q .ranges .sends-high))
 
   module _ (m : List ℕ) (w : c .pending .wait ≡ wait.Nothing) where
     quiet-none : quiet false c ≡ c
@@ -73,7 +66,7 @@ module _ (c : Chip) (l : Sized c) (off : first c .enabled ≡ false) where
   nak-view : (m : List ℕ)
       → _≡_ {A = View} (viewOf (record { chip = markedIn (numbered 1) (withSender (numbered 1) (first c) c); memory = m })) (viewOf (record { chip = c; memory = m }))
   unfolding markedIn awaited
-  nak-view m = rw (put-found (first c) c l) refl
+  nak-view m = rw (sender-same (numbered 1) (first c) c l) refl
 
 -- ---- the packet
 
@@ -98,7 +91,7 @@ module _ (c : Chip) (l : Sized c) (on : first c .enabled ≡ true) (no : first c
   data-view : (m : List ℕ)
       → _≡_ {A = View} (viewOf (record { chip = awaiting (wait.Handshake (endpoint 1)) (withSender (numbered 1) (sent (first c)) c); memory = m })) (viewAs (sent (first c)) true false m)
   unfolding awaiting awaited sendingPlace indexOf pick
-  data-view m = rw (put-found (sent (first c)) c l) refl
+  data-view m = rw (sender-same (numbered 1) (sent (first c)) c l) refl
 
 -- ---- the pipe's IN on the whole state
 

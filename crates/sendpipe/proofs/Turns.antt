@@ -11,16 +11,15 @@ use Rattle.event.specs.declared.Event.{Event}
 use Rattle.event.specs.declared.Event.the-variants as event
 use Rattle.state.specs.declared.Wait.the-variants as wait
 use Rattle.state.specs.declared.Chip.{Chip}
-use Rattle.settings.specs.Settings.{numbered}
+use Rattle.window.specs.Window.{numbered}
 use Rattle.answer.specs.declared.Answer.the-variants as answer
 use Rattle.answer.specs.declared.Packet as packet
 use Rattle.answer.specs.Answer.{packetAt}
 use Rattle.packet.specs.Packet.{packetBytes}
 use Rattle.step.specs.Step.{stepBytes}
-use Rattle.frame.specs.Place.{receivingPlace, awaited}
-use Rattle.frame.proofs.Frame.{same}
+use Rattle.frame.specs.Place.{endpoint, receivingPlace, awaited}
 use Rattle.typed.specs.Next.{next}
-use Rattle.standing.specs.Standing.{endpoint, Awaits, Standing}
+use Rattle.standing.specs.Standing.{Awaits, Standing}
 use Rattle.standing.proofs.Reaches.{pipes-range}
 use Rattle.standing.proofs.Turns.{over-none}
 use Rattle.world.specs.Host.{Packet, Open, over, acks, fails, datas, others, Host, isAcks, isOver}

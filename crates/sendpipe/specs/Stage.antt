@@ -4,11 +4,10 @@ use mathlib.Core.Path.{_≡_}
 use mathlib.Core.Bool.{Bool, true, false, not}
 use mathlib.Core.List.{List, [], _∷_, _++_}
 use Rattle.window.specs.declared.Kind.the-variants as kind
-use Rattle.window.specs.Window.{txSize, startOf}
+use Rattle.window.specs.Window.{txSize, startOf, numbered}
 use Rattle.ring.specs.Ring.{level, contents}
 use Rattle.sender.specs.declared.Sender.{Sender}
 use Rattle.state.specs.State.{Model, senderAt}
-use Rattle.settings.specs.Settings.{numbered}
 use Rattle.frame.specs.Place.{sends, awaited}
 use Rattle.world.specs.Host.{Packet, isAcks}
 use Rattle.world.specs.World.{Lists, World}

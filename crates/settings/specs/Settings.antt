@@ -7,6 +7,7 @@ use lib.ListN.{replicate}
 use lib.Dec.{eqb}
 use Rattle.choice.specs.Choice.{pick}
 use Rattle.window.specs.declared.FifoNumber.{FifoNumber}
+use Rattle.window.specs.Window.{numbered}
 use Rattle.epc.specs.Bits.{has, odd}
 use Rattle.sender.specs.Sender as sender
 use Rattle.receiver.specs.Receiver as receiver
@@ -32,10 +33,6 @@ awaitsIn e Setup = false
 abbrev pub awaits : Endpoint → Chip → Bool
 awaits e c = awaitsIn e (c .pending .wait)
 
--- endpoint 0's place
-abbrev pub zero : Endpoint
-zero = record { 0 = 0 }
-
 -- "the whole byte is held, the newest replacing older"
 abbrev pub heldByte : ℕ → Chip → Chip
 heldByte v c = withPending (record { wait = c .pending .wait; holds = true; held = v; flush = c .pending .flush }) c
@@ -48,9 +45,6 @@ pub record Reset (v : ℕ) (c : Chip) (m : List ℕ) (r : Chip) (m′ : List ℕ
 -- FAR: "bit 7 AD_EN, 6..0 address"
 abbrev pub farWrite : ℕ → Chip → Chip
 farWrite v c = withFar (has 128 v) (v % 128) c
-
-abbrev pub numbered : ℕ → FifoNumber
-numbered n = record { 0 = n }
 
 -- "Writing another value clears TX_EN, LAST, RX_EN, all waits, held command bytes, held flushes and the SETUP mark, without TX_DONE; FIFO bytes
 -- stay": TX_EN and LAST of a sender, RX_EN of a receiver, then TX_EN, RX_EN and the mark of endpoint 0 and what is awaited and held

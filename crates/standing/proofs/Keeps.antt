@@ -1,32 +1,30 @@
 -- Every bus event, every register access that is not reserved and every driver's call leave the chip set up and typed.
 -- Assumes nothing.
 use Prim.Native.Nat.{ℕ}
-use mathlib.Core.Path.{_≡_, refl, ap, _∙_}
-use mathlib.Core.Bool.{Bool, true, false, _||_}
+use mathlib.Core.Path.{_≡_, ap, _∙_}
+use mathlib.Core.Bool.{true, false}
 use mathlib.Core.List.{List}
 use lib.Dec.{eqb}
 use Rattle.event.specs.declared.Event.{Event}
-use Rattle.event.specs.declared.Event.the-variants as event
 use Rattle.sender.specs.declared.Sender.{Sender}
 use Rattle.receiver.specs.declared.Receiver.{Receiver}
 use Rattle.state.specs.declared.Chip.{Chip}
 use Rattle.state.specs.State.{Model, senderAt, receiverAt}
-use Rattle.settings.specs.Settings.{numbered}
+use Rattle.window.specs.Window.{numbered}
 use Rattle.formed.specs.Formed.{wellFormed}
 use Rattle.typed.specs.Typed.{Bytes, Typed, TypedEvent}
 use Rattle.typed.specs.Next.{next}
 use Rattle.typed.proofs.Step.{step-typed}
 use Rattle.invariant.proofs.Step.{step-keeps}
 use Rattle.frame.specs.Place.{sends, receives, awaited}
-use Rattle.frame.specs.Settings.{Settled, Untouched, isSetting, sets, isAccess}
+use Rattle.frame.specs.Settings.{Settled, Configured, Untouched, isAccess}
 use Rattle.frame.specs.Driver.{endpoint1, endpoint2, reserved}
-use Rattle.frame.proofs.Settled.{or-no, access-keeps-settings, bus-keeps-settings}
-use Rattle.frame.proofs.Pipes.{unreserved-keeps}
+use Rattle.frame.proofs.Settled.{access-keeps-settings, bus-keeps-settings}
+use Rattle.frame.proofs.Pipes.{unreserved-sets, unreserved-keeps}
 use Rattle.driving.proofs.Kept.{Sound}
 use Rattle.world.specs.Host.{Open, over, acks, fails, datas, others}
 use Rattle.world.specs.World.{Pipes}
 use Rattle.standing.specs.Standing.{Awaits, SetUp}
-use Rattle.standing.proofs.Epcs.{Epcs, bus-keeps-epcs}
 use Rattle.standing.proofs.Calls.{Leaves}
 
 -- the chip and its memory, typed and set up
@@ -36,7 +34,7 @@ pub record Chips (p : Pipes) (m : Model) : Type 0 where
 
 -- what the set-up is about stays
 module _ (p : Pipes) (c c′ : Chip) (s : SetUp p c) where
-  pub set-up-by : wellFormed c′ ≡ true → Settled c c′ → senderAt (numbered 1) c′ .epc ≡ senderAt (numbered 1) c .epc
+  set-up-by : wellFormed c′ ≡ true → Settled c c′ → senderAt (numbered 1) c′ .epc ≡ senderAt (numbered 1) c .epc
       → receiverAt (numbered 1) c′ .epc ≡ receiverAt (numbered 1) c .epc → SetUp p c′
   set-up-by w k e f =
       record {
@@ -57,22 +55,6 @@ awaits-by fails c c′ e h = rw e h
 awaits-by datas c c′ e h = rw e h
 awaits-by others c c′ e h = rw e h
 
--- a register access that is not reserved is no write of MCNTRL, FAR or NFSR
-first-of : (a b c d e f : Bool) → (a || b || c || d || e || f) ≡ false → a ≡ false
-first-of a b c d e f h =
-    or-no a b (or-no (a || b) c (or-no (a || b || c) d (or-no (a || b || c || d) e (or-no (a || b || c || d || e) f h .0) .0) .0) .0) .0
-
-pub unreserved-sets : (t : Event) → isAccess t ≡ true → reserved t ≡ false → sets t ≡ false
-unfolding isAccess reserved sets
-unreserved-sets (event.Read a) i h = refl
-unreserved-sets (event.Write a v) i h = first-of (isSetting a) (eqb a 0x28) (eqb a 0x29) (eqb a 0x2B) (eqb a 0x2C) (eqb a 0x2F) h
-unreserved-sets (event.In a e) i h = refl
-unreserved-sets (event.Out a e) i h = refl
-unreserved-sets (event.Setup a e) i h = refl
-unreserved-sets (event.Data pid sound) i h = refl
-unreserved-sets event.Ack i h = refl
-unreserved-sets event.Timeout i h = refl
-
 module _ (p : Pipes) (m : Model) (k : Chips p m) where
   well-then : (t : Event) (s : List ℕ) → TypedEvent t → wellFormed (next t s m .chip) ≡ true
   well-then t s b = step-keeps t s m b (k .typed) (k .set-up .well)
@@ -80,16 +62,16 @@ module _ (p : Pipes) (m : Model) (k : Chips p m) where
   -- A bus event.
   pub bus-chips : (t : Event) (s : List ℕ) → isAccess t ≡ false → TypedEvent t → Bytes s → Chips p (next t s m)
   bus-chips t s i b bs =
-      let epcs : Epcs (m .chip) (next t s m .chip) = bus-keeps-epcs t s m i in
+      let same : Configured (m .chip) (next t s m .chip) = bus-keeps-settings t s m i in
       record {
         typed = step-typed t s m b bs (k .typed);
-        set-up = set-up-by p (m .chip) (next t s m .chip) (k .set-up) (well-then t s b) (bus-keeps-settings t s m i)
-            (epcs .senders (numbered 1)) (epcs .receivers (numbered 1));
+        set-up = set-up-by p (m .chip) (next t s m .chip) (k .set-up) (well-then t s b) (same .settled)
+            (same .epcs .senders (numbered 1)) (same .epcs .receivers (numbered 1));
       }
 
   -- A register access that is not reserved; what is awaited stays too.
   pub access-untouched : (t : Event) (s : List ℕ) → isAccess t ≡ true → reserved t ≡ false → Untouched (m .chip) (next t s m .chip)
-  access-untouched t s i r = access-keeps-settings t s m i (unreserved-sets t i r)
+  access-untouched t s i r = access-keeps-settings t s m i (unreserved-sets t r)
 
   pub access-chips : (t : Event) (s : List ℕ) → isAccess t ≡ true → reserved t ≡ false → TypedEvent t → Bytes s → Chips p (next t s m)
   access-chips t s i r b bs =

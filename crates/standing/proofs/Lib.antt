@@ -1,5 +1,4 @@
 -- Standing is kept by every action.
-pub mod Epcs
 pub mod Reaches
 pub mod Calls
 pub mod Waits

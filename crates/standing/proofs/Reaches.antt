@@ -16,12 +16,13 @@ use Rattle.state.specs.declared.Wait.{Wait}
 use Rattle.state.specs.declared.Wait.the-variants as wait
 use Rattle.state.specs.declared.Chip.{Chip}
 use Rattle.state.specs.State.{senderAt, receiverAt}
-use Rattle.settings.specs.Settings.{operational, numbered}
+use Rattle.settings.specs.Settings.{operational}
+use Rattle.window.specs.Window.{numbered}
 use Rattle.tokens.specs.declared.Match.{Match}
 use Rattle.tokens.specs.declared.Match.the-variants.{Nobody, Takes}
 use Rattle.tokens.specs.Tokens.{own, inMask, outMask, winner}
 use Rattle.step.specs.Step.{quiet}
-use Rattle.frame.specs.Place.{Place, sends, receives, at, sendingPlace, receivingPlace, Owner, isOwner, awaitedOf, awaited}
+use Rattle.frame.specs.Place.{endpoint, Place, sends, receives, at, sendingPlace, receivingPlace, Owner, isOwner}
 use Rattle.frame.specs.Driver.{Piped, endpoint1, endpoint2}
 use Rattle.frame.specs.Owner.{inOwner, outOwner, setupOwner, dataOwner, owner, isFor}
 use Rattle.frame.proofs.Matching.{in-by, out-by, quiet-looks}
@@ -29,7 +30,7 @@ use Rattle.frame.proofs.Lowest.{in-first, out-first, in-for-first, out-for-firs
 use Rattle.driver.specs.Driver.{startable}
 use Rattle.world.specs.Host.{elsewhere, otherToken}
 use Rattle.world.specs.World.{Pipes}
-use Rattle.standing.specs.Standing.{endpoint, SetUp}
+use Rattle.standing.specs.Standing.{SetUp}
 
 -- "a in 0..127, e, f in 1..15"
 pub record Ranges (p : Pipes) : Type 0 where
@@ -57,12 +58,15 @@ pipes-range p h =
       receives-high = leb-true f 15 (t .1);
     }
 
--- EPC 10 + n is enabled, not isochronous, and of bus endpoint n
+-- EPC 10 + n is enabled, not isochronous, without STALL, and of bus endpoint n
 epc-number : (n : ℕ) → n ≤ 15 → epcOf (0x10 + n) .number .0 ≡ n
 epc-number n h = omega arith
 
 epc-iso : (n : ℕ) → n ≤ 15 → epcOf (0x10 + n) .iso ≡ false
 epc-iso n h = ne-eqb ((0x10 + n) / 32 % 2) 1 (omega arith)
+
+pub epc-unstalled : (n : ℕ) → n ≤ 15 → epcOf (0x10 + n) .stall ≡ false
+epc-unstalled n h = ne-eqb ((0x10 + n) / 128 % 2) 1 (omega arith)
 
 epc-enabled : (n : ℕ) → n ≤ 15 → epcOf (0x10 + n) .enabled ≡ true
 epc-enabled n h = eq-eqb ((0x10 + n) / 16 % 2) 1 (omega arith)
@@ -100,6 +104,11 @@ module _ (p : Pipes) (c : Chip) (r : Ranges p) (s : SetUp p c) where
   pub out-reaches-then : winner (outMask (p .a) (p .f) (quiet false c)) ≡ Takes (endpoint 2)
   out-reaches-then = rw (out-by (p .a) (p .f) c (quiet false c) (quiet-looks false c)) out-reaches
 
+-- an endpoint that receives stands at no place that sends
+receiving-away : (k : Endpoint) → at (receivingPlace k) (sends (numbered 1)) ≡ false
+unfolding receivingPlace
+receiving-away k = by-test (λ (q : Place). at q (sends (numbered 1)) ≡ false) _ (λ _. refl) (λ _. refl)
+
 -- an IN is for no endpoint that receives, an OUT for none that sends, a SETUP for neither
 module _ (a : ℕ) (e : BusEndpoint) (c : Chip) where
   pub in-not-receives : isFor (event.In a e) c (receives (numbered 1)) ≡ false
@@ -119,12 +128,9 @@ module _ (a : ℕ) (e : BusEndpoint) (c : Chip) where
   out-not-sends =
       by-test (λ (o : Owner). isOwner o (sends (numbered 1)) ≡ false) _ (λ _. go (winner (outMask a e c))) (λ _. refl)
     where
-      away : (k : Endpoint) → at (receivingPlace k) (sends (numbered 1)) ≡ false
-      away k = unfold receivingPlace in (by-test (λ (q : Place). at q (sends (numbered 1)) ≡ false) _ (λ _. refl) (λ _. refl))
-
       go : (w : Match) → isOwner (outOwner w) (sends (numbered 1)) ≡ false
       go Nobody = refl
-      go (Takes k) = away k
+      go (Takes k) = receiving-away k
 
   pub setup-not-piped : (q : Place) → Piped q → isFor (event.Setup a e) c q ≡ false
   unfolding owner setupOwner
@@ -133,32 +139,17 @@ module _ (a : ℕ) (e : BusEndpoint) (c : Chip) where
   setup-not-piped q endpoint2 =
       by-test (λ (o : Owner). isOwner o q ≡ false) _ (λ _. by-test (λ (o : Owner). isOwner o q ≡ false) _ (λ _. refl) (λ _. refl)) (λ _. refl)
 
--- data is for no endpoint that sends, and for one that receives only where it is awaited
+-- data is for no endpoint that sends
 pub data-not-sends : (pid sound : ℕ) (c : Chip) → isFor (event.Data pid sound) c (sends (numbered 1)) ≡ false
 unfolding owner
 data-not-sends pid sound c =
     by-test (λ (o : Owner). isOwner o (sends (numbered 1)) ≡ false) _ (λ _. go (c .pending .wait)) (λ _. refl)
   where
-    away : (k : Endpoint) → at (receivingPlace k) (sends (numbered 1)) ≡ false
-    away k = unfold receivingPlace in (by-test (λ (q : Place). at q (sends (numbered 1)) ≡ false) _ (λ _. refl) (λ _. refl))
-
     go : (w : Wait) → isOwner (dataOwner w) (sends (numbered 1)) ≡ false
     go wait.Nothing = refl
     go (wait.Handshake k) = refl
-    go (wait.Data k) = away k
+    go (wait.Data k) = receiving-away k
     go wait.Setup = refl
-
-pub data-not-receives : (pid sound : ℕ) (c : Chip) → awaited (receives (numbered 1)) c ≡ false
-    → isFor (event.Data pid sound) c (receives (numbered 1)) ≡ false
-unfolding owner awaited
-data-not-receives pid sound c free =
-    by-test (λ (o : Owner). isOwner o (receives (numbered 1)) ≡ false) _ (λ _. go (c .pending .wait) free) (λ _. refl)
-  where
-    go : (w : Wait) → isOwner (awaitedOf w) (receives (numbered 1)) ≡ false → isOwner (dataOwner w) (receives (numbered 1)) ≡ false
-    go wait.Nothing h = refl
-    go (wait.Handshake k) h = refl
-    go (wait.Data k) h = h
-    go wait.Setup h = refl
 
 -- ---- tokens of other transactions
 

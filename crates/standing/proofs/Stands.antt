@@ -2,13 +2,13 @@
 -- Assumes nothing.
 use Prim.Native.Nat.{ℕ, _<_}
 use native.Mathlib.Omega.{arith}
-use mathlib.Core.Path.{_≡_, refl, sym}
-use mathlib.Core.Bool.{Bool, true, false, not, _&&_, _||_, false≢true, and-eq-true-iff}
+use mathlib.Core.Path.{_≡_, refl}
+use mathlib.Core.Bool.{Bool, true, false, not, _&&_, _||_, and-eq-true-iff}
 use mathlib.Core.List.{List, [], _∷_}
 use mathlib.Core.Logic.{inl, inr}
 use lib.ListN.{length}
 use lib.Dec.{leb}
-use borrow.Author.Tests.{leb-true}
+use borrow.Author.Tests.{leb-true, not-true, not-false}
 use Rattle.choice.proofs.ByTest.{by-test}
 use Rattle.event.specs.declared.Event.{Event}
 use Rattle.event.specs.declared.Event.the-variants as event
@@ -25,27 +25,19 @@ use Rattle.frame.specs.Driver.{Piped, reserved}
 use Rattle.frame.proofs.Awaits.{wait-over}
 use Rattle.driver.specs.Driver.{Call, startable, offered, sendServed}
 use Rattle.receiving.specs.Receive.{receiveServed}
+use Rattle.driving.proofs.Reached.{offer-reaches, send-reaches, receive-reaches}
 use Rattle.driving.proofs.Kept.{Sound, offer-keeps, send-keeps, receive-keeps}
 use Rattle.world.specs.Host.{Packet, over, fails, datas, Host, Fate, sound, damaged, lost, Action, offer, sendService, receiveService, access, take, inToken, ack, outToken, outData, other, timeout, late, otherToken, otherRest, isOver, isAcks, isDatas, isOthers}
 use Rattle.world.specs.World.{Pipes, Lists, World, startWorld, called, actOffer, actSend, actReceive, answerTo, happens, hostly, goes, actIn, actAck, actTake, actOut, hostOut, isAck, sent, actData, afterToken, actOther, act, acts}
 use Rattle.world.specs.Lists.{FateBytes, ActionBytes, AllBytes}
 use Rattle.standing.specs.Standing.{Awaits, Holding, Standing}
 use Rattle.standing.proofs.Reaches.{pipes-range, Ranges, in-reaches-then, out-reaches-then, other-not-for}
-use Rattle.standing.proofs.Calls.{Leaves, offer-leaves, send-leaves, receive-leaves}
+use Rattle.standing.proofs.Calls.{Leaves, sending-leaves, receiving-leaves}
 use Rattle.standing.proofs.Waits.{in-waits, out-waits, other-free}
 use Rattle.standing.proofs.Keeps.{Chips, awaits-by, access-untouched, bus-chips, access-chips, chips-sound, call-chips}
 use Rattle.standing.proofs.Turns.{goes-holding, in-holding, out-holding, token-not-datas, over-none, none-awaits, acks-fail, datas-fail, in-awaits, token-awaits}
 use Rattle.standing.proofs.Events.{no-bytes, in-typed, out-typed, data-typed, ack-typed, timeout-typed, token-no-access, other-is-token, rest-ends}
 use Rattle.standing.proofs.Start.{start-stands}
-
--- a test that fails, and one that does not
-not-yes : (b : Bool) → not b ≡ true → b ≡ false
-not-yes true h = absurd {0} (false≢true h)
-not-yes false h = refl
-
-not-no : (b : Bool) → not b ≡ false → b ≡ true
-not-no true h = refl
-not-no false h = absurd {0} (false≢true (sym h))
 
 -- ---- a world after an action
 
@@ -101,19 +93,19 @@ module _ (w : World) (s : Standing w) where
   unfolding actOffer
   offer-stands b bs =
       call-stands (offered b (w .model) (w .driver)) _ (offer-keeps b (w .model) (w .driver) bs (chips-sound (w .pipes) (w .model) k))
-      (offer-leaves b (w .model) (w .driver))
+      (sending-leaves (offer-reaches b (w .model) (w .driver) bs .touches))
 
   send-stands : Standing (actSend w)
   unfolding actSend
   send-stands =
       call-stands (sendServed (w .model) (w .driver)) _ (send-keeps (w .model) (w .driver) (chips-sound (w .pipes) (w .model) k))
-      (send-leaves (w .model) (w .driver))
+      (sending-leaves (send-reaches (w .model) (w .driver) .touches))
 
   receive-stands : Standing (actReceive w)
   unfolding actReceive
   receive-stands =
       call-stands (receiveServed (w .model) (w .driver)) _ (receive-keeps (w .model) (w .driver) (chips-sound (w .pipes) (w .model) k))
-      (receive-leaves (w .model) (w .driver))
+      (receiving-leaves (receive-reaches (w .model) (w .driver) .touches))
 
   access-stands : (t : Event) → isAccess t ≡ true → reserved t ≡ false → TypedEvent t → Standing (happens t [] (w .host) (w .lists) w)
   access-stands t i free ty =
@@ -224,7 +216,7 @@ module _ (w : World) (s : Standing w) where
   unfolding actOther
   other-stands t b bs =
       by-test Standing (not (inRange t (length b))) (λ _. s) (λ n.
-      let ty : TypedEvent t = in-range-typed t (length b) (not-no (inRange t (length b)) n) in
+      let ty : TypedEvent t = in-range-typed t (length b) (not-false (inRange t (length b)) n) in
       by-test Standing (isOver (w .host .at) && otherToken (w .pipes .a) (w .pipes .e) (w .pipes .f) t)
       (λ o. token-stands t b ty bs (and-eq-true-iff (isOver (w .host .at)) (otherToken (w .pipes .a) (w .pipes .e) (w .pipes .f) t) .0 o .1)) (λ _.
       by-test Standing ((isOthers (w .host .at) || isOver (w .host .at)) && otherRest t)
@@ -243,7 +235,7 @@ act-stands (access t) w bs s =
     (λ o.
     let x : _ = and-eq-true-iff (isAccess t && not (reserved t)) (inRange t 0) .0 o in
     let y : _ = and-eq-true-iff (isAccess t) (not (reserved t)) .0 (x .0) in
-    access-stands w s t (y .0) (not-yes (reserved t) (y .1)) (in-range-typed t 0 (x .1)))
+    access-stands w s t (y .0) (not-true (reserved t) (y .1)) (in-range-typed t 0 (x .1)))
     (λ _. s)
 act-stands (take b) w bs s = take-stands w s b bs
 act-stands (inToken reaches seen) w bs s = by-test Standing (isOver (w .host .at)) (λ o. in-stands w s reaches seen o) (λ _. s)

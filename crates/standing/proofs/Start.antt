@@ -3,17 +3,17 @@
 use Prim.Native.Nat.{ℕ, _+_, _/_, _%_}
 use native.Mathlib.Omega.{arith}
 use mathlib.Core.Path.{_≡_, refl, _∙_}
-use mathlib.Core.Bool.{true, false, false≢true}
+use mathlib.Core.Bool.{true, false≢true}
 use lib.Dec.{eqb}
 use borrow.Author.Tests.{eq-eqb}
 use Rattle.choice.specs.Choice.{pick}
-use Rattle.window.specs.Window.{indexOf}
+use Rattle.window.specs.Window.{indexOf, numbered}
 use Rattle.event.specs.declared.BusEndpoint.{BusEndpoint}
 use Rattle.epc.specs.Epc.{epcOf}
 use Rattle.state.specs.declared.Wait.the-variants.{Nothing}
 use Rattle.state.specs.declared.Chip.{Chip}
 use Rattle.state.specs.State.{senderAt, receiverAt}
-use Rattle.settings.specs.Settings.{numbered, nfsrWrite}
+use Rattle.settings.specs.Settings.{nfsrWrite}
 use Rattle.receiver.specs.Receiver.{flushed}
 use Rattle.writes.specs.Write.{senderWrite, receiverWrite, writeOf}
 use Rattle.driver.specs.Registers.{written}

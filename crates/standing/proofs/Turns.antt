@@ -8,14 +8,14 @@ use Rattle.choice.proofs.ByTest.{by-test}
 use Rattle.state.specs.declared.Wait.{Wait}
 use Rattle.state.specs.declared.Wait.the-variants.{Nothing, Handshake, Data, Setup}
 use Rattle.state.specs.declared.Chip.{Chip}
-use Rattle.settings.specs.Settings.{numbered}
+use Rattle.window.specs.Window.{numbered}
 use Rattle.answer.specs.declared.Answer.{Answer}
 use Rattle.answer.specs.declared.Answer.the-variants as answer
-use Rattle.frame.specs.Place.{Place, sends, receives, awaited}
+use Rattle.frame.specs.Place.{endpoint, Place, sends, receives, awaited}
 use Rattle.frame.specs.Driver.{Piped, endpoint1, endpoint2}
 use Rattle.world.specs.Host.{Open, over, acks, fails, datas, others, Host, isOver, isAcks, isDatas}
 use Rattle.world.specs.World.{goes, sees, hostIn, hostOut, afterToken}
-use Rattle.standing.specs.Standing.{endpoint, Awaits, Holding}
+use Rattle.standing.specs.Standing.{Awaits, Holding}
 use Rattle.standing.proofs.Waits.{Sent-waits}
 use Rattle.standing.proofs.Events.{no-bytes}
 

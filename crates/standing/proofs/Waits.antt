@@ -27,7 +27,7 @@ use Rattle.answer.specs.declared.Out.{Out}
 use Rattle.bus.specs.Bus.{awaiting, markedIn, answeredSender, inSender, inAt, outAt}
 use Rattle.step.specs.Step.{quiet, inStep, outStep, stepOf}
 use Rattle.typed.specs.Next.{next}
-use Rattle.frame.specs.Place.{Place, awaited}
+use Rattle.frame.specs.Place.{endpoint, Place, awaited}
 use Rattle.frame.specs.Owner.{isFor, acks}
 use Rattle.frame.specs.Settings.{isAccess}
 use Rattle.frame.proofs.Waits.{quiet-wait, quiet-free}
@@ -72,14 +72,14 @@ module _ (s : List ℕ) (m : Model) (on : operational (m .chip) ≡ true) where
   q = quiet false (m .chip)
 
   -- After an IN that endpoint 1 takes a handshake is awaited of it if it sent data, else nothing.
-  pub in-waits : (a : ℕ) (e : BusEndpoint) → winner (inMask a e q) ≡ Takes (record { 0 = 1 })
-      → Sent-waits (record { 0 = 1 }) (stepOf (event.In a e) s (m .chip) (m .memory) .answer) (next (event.In a e) s m .chip .pending .wait)
+  pub in-waits : (a : ℕ) (e : BusEndpoint) → winner (inMask a e q) ≡ Takes (endpoint 1)
+      → Sent-waits (endpoint 1) (stepOf (event.In a e) s (m .chip) (m .memory) .answer) (next (event.In a e) s m .chip .pending .wait)
   unfolding stepOf inStep pick inAt
-  in-waits a e t = rw (on, t) (sender-waits q (quiet-wait false (m .chip)) (record { 0 = 1 }))
+  in-waits a e t = rw (on, t) (sender-waits q (quiet-wait false (m .chip)) (endpoint 1))
 
   -- After an OUT that endpoint 2 takes its data is awaited.
-  pub out-waits : (a : ℕ) (e : BusEndpoint) → winner (outMask a e q) ≡ Takes (record { 0 = 2 })
-      → next (event.Out a e) s m .chip .pending .wait ≡ Data (record { 0 = 2 })
+  pub out-waits : (a : ℕ) (e : BusEndpoint) → winner (outMask a e q) ≡ Takes (endpoint 2)
+      → next (event.Out a e) s m .chip .pending .wait ≡ Data (endpoint 2)
   unfolding stepOf outStep pick outAt awaiting
   out-waits a e t = rw (on, t)
 

@@ -1,24 +1,21 @@
 -- What the set-up and the turns of the host leave standing, whatever is lost or damaged.
-use Prim.Native.Nat.{ℕ, _+_, _≤_}
+use Prim.Native.Nat.{_+_, _≤_}
 use mathlib.Core.Path.{_≡_}
 use mathlib.Core.Logic.{_⊎_}
 use mathlib.Core.Bool.{true, false}
 use lib.ListN.{length}
 use Rattle.epc.specs.Epc.{epcOf}
-use Rattle.state.specs.declared.Endpoint.{Endpoint}
 use Rattle.state.specs.declared.Wait.the-variants.{Nothing, Handshake, Data}
 use Rattle.state.specs.declared.Chip.{Chip}
 use Rattle.state.specs.State.{senderAt, receiverAt}
-use Rattle.settings.specs.Settings.{operational, numbered}
+use Rattle.settings.specs.Settings.{operational}
+use Rattle.window.specs.Window.{numbered}
 use Rattle.formed.specs.Formed.{wellFormed}
 use Rattle.typed.specs.Typed.{Bytes, Typed}
-use Rattle.frame.specs.Place.{sends, receives, awaited}
+use Rattle.frame.specs.Place.{endpoint, sends, receives, awaited}
 use Rattle.driver.specs.Driver.{startable}
 use Rattle.world.specs.Host.{Open, over, acks, fails, datas, others, isDatas, Host}
 use Rattle.world.specs.World.{Pipes, World}
-
-abbrev pub endpoint : ℕ → Endpoint
-endpoint n = record { 0 = n }
 
 -- what the chip awaits, by what the host is at; nothing, after a timeout
 unfoldable pub Awaits : Open → Chip → Type 0

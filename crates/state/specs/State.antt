@@ -11,6 +11,7 @@ use Rattle.receiver.specs.declared.Receiver.{Receiver}
 use Rattle.receiver.specs.Receiver.{resetReceiver}
 use Rattle.control.specs.State.{resetControl}
 use Rattle.state.specs.declared.Endpoint.{Endpoint}
+use Rattle.state.specs.declared.Wait.{Wait}
 use Rattle.state.specs.declared.Wait.the-variants.{Nothing}
 use Rattle.state.specs.declared.Pending.{Pending}
 use Rattle.state.specs.declared.Chip.{Chip}
@@ -30,9 +31,17 @@ senderAt n c = getD (c .senders) (indexOf n) resetSender
 abbrev pub receiverAt : FifoNumber → Chip → Receiver
 receiverAt n c = getD (c .receivers) (indexOf n) resetReceiver
 
+-- endpoint 0's place
+abbrev pub zeroPlace : Endpoint
+zeroPlace = record { 0 = 0 }
+
+-- so much awaited, nothing held
+abbrev pub awaitingOnly : Wait → Pending
+awaitingOnly w = record { wait = w; holds = false; held = 0; flush = false }
+
 -- nothing awaited, nothing held
 abbrev pub nothing : Pending
-nothing = record { wait = Nothing; holds = false; held = 0; flush = false }
+nothing = awaitingOnly Nothing
 
 -- "Reset: all zero"
 abbrev pub resetChip : Chip

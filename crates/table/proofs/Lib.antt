@@ -4,3 +4,4 @@ pub mod Worked
 pub mod Counts
 pub mod Table
 pub mod Unreached
+pub mod Sentences

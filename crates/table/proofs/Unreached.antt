@@ -12,11 +12,10 @@ use Rattle.state.specs.declared.Chip.{Chip}
 use Rattle.state.specs.State as state
 use Rattle.state.specs.Set.{withControl, withSender, withNfsr, withPending}
 use Rattle.control.specs.State as zero
-use Rattle.settings.specs.Settings.{numbered}
 use Rattle.formed.specs.Formed.{sends, receives, unheld, flushBeside, heldBeside, pendingFor, sendersWell, receiversWell, registersWell}
 use Rattle.formed.specs.Formed as formed
 use Rattle.choice.specs.Choice.{pick}
-use Rattle.window.specs.Window.{indexOf}
+use Rattle.window.specs.Window.{indexOf, numbered}
 use Rattle.ring.specs.Ring.{storeAll, bytesFrom}
 use Rattle.fifo0.specs.Control.{rcount, put0, take0, fill0}
 use Rattle.txfifo.specs.Transmit.{putTx, refillTx}
@@ -45,7 +44,7 @@ use Rattle.step.specs.Step.{quiet, readStep, writeStep, inStep, outStep, setupS
 
 -- the operational state with a handshake awaited of an endpoint
 abbrev awaiting-of : Endpoint → Chip
-awaiting-of e = withPending (record { wait = wait.Handshake e; holds = false; held = 0; flush = false }) (withNfsr 2 state.resetChip)
+awaiting-of e = withPending (state.awaitingOnly (wait.Handshake e)) (withNfsr 2 state.resetChip)
 
 abbrev outside : Chip
 outside = withControl (zero.withMark true zero.resetControl) state.resetChip

@@ -6,6 +6,7 @@ use lib.Dec.{eqb}
 use lib.Count.{trailingZeros}
 use Rattle.choice.specs.Choice.{pick}
 use Rattle.window.specs.declared.FifoNumber.{FifoNumber}
+use Rattle.window.specs.Window.{numbered}
 use Rattle.event.specs.declared.BusEndpoint.{BusEndpoint}
 use Rattle.epc.specs.Bits.{bitOf}
 use Rattle.epc.specs.Epc.{takes}
@@ -28,9 +29,6 @@ senderTakes address e n c = own address c && takes (senderAt n c .epc) e
 
 unfoldable pub receiverTakes : ℕ → BusEndpoint → FifoNumber → Chip → Bool
 receiverTakes address e n c = own address c && takes (receiverAt n c .epc) e
-
-abbrev pub numbered : ℕ → FifoNumber
-numbered n = record { 0 = n }
 
 -- "In its direction": endpoints 0, 1, 3, 5 for IN, and 0, 2, 4, 6 for OUT; endpoint k that matches is bit k of the mask
 unfoldable pub inMask : ℕ → BusEndpoint → Chip → ℕ

@@ -8,8 +8,6 @@ use Rattle.window.specs.declared.FifoNumber.{FifoNumber}
 use Rattle.window.specs.Window.{fifo0, indexOf}
 use Rattle.event.specs.declared.BusEndpoint.{BusEndpoint}
 use Rattle.sender.specs.declared.Sender.{Sender}
-use Rattle.sender.specs.declared.Sent.{Sent}
-use Rattle.sender.specs.declared.Sent.the-variants as sent
 use Rattle.sender.specs.Sender as sender
 use Rattle.control.specs.declared.Control.{Control}
 use Rattle.controlbus.specs.declared.Sent0.{Sent0}
@@ -20,15 +18,17 @@ use Rattle.state.specs.declared.Wait.{Wait}
 use Rattle.state.specs.declared.Wait.the-variants as wait
 use Rattle.state.specs.declared.Chip.{Chip}
 use Rattle.state.specs.State.{senderAt, nothing, fifoOf}
+use Rattle.state.specs.Set.{withControl, withSender}
 use Rattle.tokens.specs.declared.Match.{Match}
 use Rattle.tokens.specs.Tokens.{winner}
 use Rattle.answer.specs.declared.Out.{Out}
-use Rattle.ends.specs.Ends.{idled, doneFlush, doneByte, senderByte, endedZero, endedSender, endedAt, endedIn, ended, droppedSetup, droppedIn, dropped}
-use Rattle.bus.specs.Bus.{awaiting, markedIn, answeredZero, inZero, answeredSender, inSender, inAt, inBy, inToken, outAt, outBy, outToken, setupToken}
+use Rattle.ends.specs.Ends.{idled, doneFlush, doneByte, senderByte, endedZero, endedSender, ended, droppedSetup, dropped}
+use Rattle.bus.specs.Bus.{awaiting, markedIn, inZero, inSender, inAt, inBy, inToken, outAt, outBy, outToken, setupToken}
 use Rattle.typed.specs.Typed.{Byte, Typed0, TypedSender, TypedChip, placeOf}
 use Rattle.typed.proofs.Parts.{command-typed, sent-typed, tx-command0-typed}
 use Rattle.typed.proofs.Chip.{with-control-typed, with-sender-typed, with-pending-typed}
 use Rattle.typed.proofs.Chip.{nakked-in-typed}
+use Rattle.typed.proofs.Steps.{ended-by, dropped-by, answered-zero-by, answered-sender-by}
 
 -- endpoint 0, and the chip beside an answer
 abbrev pub Zero : Control → Type 0
@@ -74,33 +74,17 @@ module _ (c : Chip) (t : TypedChip c) where
       let s : TypedSender (sender.handshake acked (senderAt n c)) = t .senders .each (indexOf n) in
       idled-typed _ (with-sender-typed c t n _ (sender-byte-typed (c .pending .holds) (c .pending .held) _ (t .pending .held-byte) s))
 
-  ended-at-typed : (e : Endpoint) (acked : Bool) → TypedChip (endedAt e acked c)
-  unfolding endedAt
-  ended-at-typed e acked = by-test TypedChip _ (λ _. ended-zero-typed acked) (λ _. ended-sender-typed (fifoOf e) acked)
-
-  ended-in-typed : (w : Wait) (acked : Bool) → TypedChip (endedIn w acked c)
-  ended-in-typed wait.Nothing acked = t
-  ended-in-typed (wait.Handshake e) acked = ended-at-typed e acked
-  ended-in-typed (wait.Data e) acked = t
-  ended-in-typed wait.Setup acked = t
-
   -- The end of a wait for a handshake keeps the chip's state typed.
   pub ended-typed : (acked : Bool) → TypedChip (ended acked c)
-  ended-typed acked = ended-in-typed (c .pending .wait) acked
+  ended-typed acked = ended-by TypedChip c t acked (ended-zero-typed acked) (λ n. ended-sender-typed n acked)
 
   dropped-setup-typed : TypedChip (droppedSetup c)
   unfolding droppedSetup
   dropped-setup-typed = idled-typed _ (with-control-typed c t _ (t .control))
 
-  dropped-in-typed : (w : Wait) → TypedChip (droppedIn w c)
-  dropped-in-typed wait.Nothing = t
-  dropped-in-typed (wait.Handshake e) = t
-  dropped-in-typed (wait.Data e) = idled-typed c t
-  dropped-in-typed wait.Setup = dropped-setup-typed
-
   -- So does another bus event that comes instead of awaited data.
   pub dropped-typed : TypedChip (dropped c)
-  dropped-typed = dropped-in-typed (c .pending .wait)
+  dropped-typed = dropped-by TypedChip c t (idled-typed c t) dropped-setup-typed
 
 -- ---- tokens
 
@@ -120,32 +104,21 @@ module _ (c : Chip) (t : TypedChip c) where
   unfolding markedIn
   marked-in-typed n = nakked-in-typed c t n
 
-module _ (n : Chip) (t : TypedChip n) where
-  answered-zero-typed : (a : Sent0) (z : Control) → Gives (answeredZero a z n)
-  answered-zero-typed sent0.Silence z = t
-  answered-zero-typed sent0.Nak z = marked-in-typed n t fifo0
-  answered-zero-typed sent0.Stall z = t
-  answered-zero-typed sent0.Data0 z = awaiting-typed n t _ (omega arith)
-  answered-zero-typed sent0.Data1 z = awaiting-typed n t _ (omega arith)
-
-  answered-sender-typed : (a : Sent) (e : Endpoint) → Byte (e .0) → (s : Sender) → Gives (answeredSender a e s n)
-  answered-sender-typed sent.Nak e small s = marked-in-typed n t (fifoOf e)
-  answered-sender-typed sent.Stall e small s = t
-  answered-sender-typed sent.Broken e small s = t
-  answered-sender-typed sent.Data0 e small s = awaiting-typed n t _ small
-  answered-sender-typed sent.Data1 e small s = awaiting-typed n t _ small
-
 module _ (c : Chip) (t : TypedChip c) where
   in-zero-typed : Gives (inZero c)
   unfolding inZero
   in-zero-typed =
-      answered-zero-typed _ (with-control-typed c t _ (after-in-typed (zero.answerIn (c .control)) (c .control) (t .control))) (zero.answerIn (c .control)) _
+      let n : Chip = withControl (zero.sent (c .control)) c in
+      let k : TypedChip n = with-control-typed c t _ (after-in-typed (zero.answerIn (c .control)) (c .control) (t .control)) in
+      answered-zero-by TypedChip n k (zero.answerIn (c .control)) _ (marked-in-typed n k fifo0) (awaiting-typed n k _ (omega arith))
 
   in-sender-typed : (e : Endpoint) → Byte (e .0) → Gives (inSender e c)
   unfolding inSender
   in-sender-typed e small =
-      let s : _ = sent-typed (senderAt (fifoOf e) c) (t .senders .each (indexOf (fifoOf e))) in
-      answered-sender-typed _ (with-sender-typed c t (fifoOf e) _ s) (sender.answerIn (senderAt (fifoOf e) c)) e small _
+      let s : Sender = senderAt (fifoOf e) c in
+      let n : Chip = withSender (fifoOf e) (sender.sent s) c in
+      let k : TypedChip n = with-sender-typed c t (fifoOf e) _ (sent-typed s (t .senders .each (indexOf (fifoOf e)))) in
+      answered-sender-by TypedChip n k (sender.answerIn s) e s (marked-in-typed n k (fifoOf e)) (awaiting-typed n k _ small)
 
   in-at-typed : (e : Endpoint) → Byte (e .0) → Gives (inAt e c)
   unfolding inAt

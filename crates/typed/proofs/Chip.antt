@@ -18,113 +18,45 @@ use Rattle.state.specs.declared.Pending.{Pending}
 use Rattle.state.specs.declared.Chip.{Chip}
 use Rattle.state.specs.State.{resetChip}
 use Rattle.state.specs.Set.{withControl, withSender, withReceiver, withNfsr, withFar, withMasks, withEvents, withPending, overran, nakkedIn, nakkedOut}
-use Rattle.typed.specs.Typed.{Byte, Typed0, TypedSender, TypedReceiver, TypedPending, TypedMasks, TypedEvents, TypedChip, TypedMemory}
+use Rattle.typed.specs.Typed.{Byte, Array, Typed0, TypedSender, TypedReceiver, TypedPending, TypedMasks, TypedEvents, TypedChip, TypedMemory}
 use Rattle.typed.proofs.Arrays.{array-set, array-replicate}
+
+-- a chip is typed where its parts are
+made : (c : Chip) → Typed0 (c .control .fifo) → Array 3 TypedSender resetSender (c .senders) → Array 3 TypedReceiver resetReceiver (c .receivers)
+    → Byte (c .nfsr) → Byte (c .address) → TypedMasks (c .masks) → TypedEvents (c .events) → TypedPending (c .pending) → TypedChip c
+made c z s r n a m e p =
+    record { control = z; senders = s; receivers = r; nfsr-byte = n; address-byte = a; masks = m; events = e; pending = p }
 
 module _ (c : Chip) (t : TypedChip c) where
   pub with-control-typed : (x : Control) → Typed0 (x .fifo) → TypedChip (withControl x c)
-  with-control-typed x h =
-      record {
-        control = h;
-        senders = t .senders;
-        receivers = t .receivers;
-        nfsr-byte = t .nfsr-byte;
-        address-byte = t .address-byte;
-        masks = t .masks;
-        events = t .events;
-        pending = t .pending;
-      }
+  with-control-typed x h = made _ h (t .senders) (t .receivers) (t .nfsr-byte) (t .address-byte) (t .masks) (t .events) (t .pending)
 
   pub with-sender-typed : (n : FifoNumber) (x : Sender) → TypedSender x → TypedChip (withSender n x c)
   with-sender-typed n x h =
-      record {
-        control = t .control;
-        senders = array-set TypedSender resetSender (c .senders) (indexOf n) x (t .senders) h;
-        receivers = t .receivers;
-        nfsr-byte = t .nfsr-byte;
-        address-byte = t .address-byte;
-        masks = t .masks;
-        events = t .events;
-        pending = t .pending;
-      }
+      made _ (t .control)
+      (array-set TypedSender resetSender (c .senders) (indexOf n) x (t .senders) h)
+      (t .receivers) (t .nfsr-byte) (t .address-byte) (t .masks) (t .events) (t .pending)
 
   pub with-receiver-typed : (n : FifoNumber) (x : Receiver) → TypedReceiver x → TypedChip (withReceiver n x c)
   with-receiver-typed n x h =
-      record {
-        control = t .control;
-        senders = t .senders;
-        receivers = array-set TypedReceiver resetReceiver (c .receivers) (indexOf n) x (t .receivers) h;
-        nfsr-byte = t .nfsr-byte;
-        address-byte = t .address-byte;
-        masks = t .masks;
-        events = t .events;
-        pending = t .pending;
-      }
+      made _ (t .control) (t .senders)
+      (array-set TypedReceiver resetReceiver (c .receivers) (indexOf n) x (t .receivers) h)
+      (t .nfsr-byte) (t .address-byte) (t .masks) (t .events) (t .pending)
 
   pub with-nfsr-typed : (x : ℕ) → Byte x → TypedChip (withNfsr x c)
-  with-nfsr-typed x h =
-      record {
-        control = t .control;
-        senders = t .senders;
-        receivers = t .receivers;
-        nfsr-byte = h;
-        address-byte = t .address-byte;
-        masks = t .masks;
-        events = t .events;
-        pending = t .pending;
-      }
+  with-nfsr-typed x h = made _ (t .control) (t .senders) (t .receivers) h (t .address-byte) (t .masks) (t .events) (t .pending)
 
   pub with-far-typed : (x : Bool) (y : ℕ) → Byte y → TypedChip (withFar x y c)
-  with-far-typed x y h =
-      record {
-        control = t .control;
-        senders = t .senders;
-        receivers = t .receivers;
-        nfsr-byte = t .nfsr-byte;
-        address-byte = h;
-        masks = t .masks;
-        events = t .events;
-        pending = t .pending;
-      }
+  with-far-typed x y h = made _ (t .control) (t .senders) (t .receivers) (t .nfsr-byte) h (t .masks) (t .events) (t .pending)
 
   pub with-masks-typed : (x : Masks) → TypedMasks x → TypedChip (withMasks x c)
-  with-masks-typed x h =
-      record {
-        control = t .control;
-        senders = t .senders;
-        receivers = t .receivers;
-        nfsr-byte = t .nfsr-byte;
-        address-byte = t .address-byte;
-        masks = h;
-        events = t .events;
-        pending = t .pending;
-      }
+  with-masks-typed x h = made _ (t .control) (t .senders) (t .receivers) (t .nfsr-byte) (t .address-byte) h (t .events) (t .pending)
 
   pub with-events-typed : (x : Events) → TypedEvents x → TypedChip (withEvents x c)
-  with-events-typed x h =
-      record {
-        control = t .control;
-        senders = t .senders;
-        receivers = t .receivers;
-        nfsr-byte = t .nfsr-byte;
-        address-byte = t .address-byte;
-        masks = t .masks;
-        events = h;
-        pending = t .pending;
-      }
+  with-events-typed x h = made _ (t .control) (t .senders) (t .receivers) (t .nfsr-byte) (t .address-byte) (t .masks) h (t .pending)
 
   pub with-pending-typed : (x : Pending) → TypedPending x → TypedChip (withPending x c)
-  with-pending-typed x h =
-      record {
-        control = t .control;
-        senders = t .senders;
-        receivers = t .receivers;
-        nfsr-byte = t .nfsr-byte;
-        address-byte = t .address-byte;
-        masks = t .masks;
-        events = t .events;
-        pending = h;
-      }
+  with-pending-typed x h = made _ (t .control) (t .senders) (t .receivers) (t .nfsr-byte) (t .address-byte) (t .masks) (t .events) h
 
   -- An overrun, a NAK to an IN, a NAK to an OUT of a FIFO.
   pub overran-typed : (n : FifoNumber) → TypedChip (withEvents (overran n (c .events)) c)

@@ -25,8 +25,9 @@ use Rattle.state.specs.declared.Wait.the-variants as wait
 use Rattle.state.specs.declared.Chip.{Chip}
 use Rattle.state.specs.State.{receiverAt, fifoOf}
 use Rattle.data.specs.Data.{markedOut, overrun, judgedAt, dataZero, dataZeroBytes, dataReceiver, dataReceiverBytes, dataSetup, dataSetupBytes}
-use Rattle.data.specs.Data.{dataAt, dataAtBytes, dataIn, dataInBytes, dataNow, dataNowBytes}
+use Rattle.data.specs.Data.{dataAtBytes, dataInBytes, dataNow, dataNowBytes}
 use Rattle.typed.specs.Typed.{Bytes, TypedChip, TypedMemory}
+use Rattle.typed.proofs.Steps.{judged-by, data-by}
 use Rattle.typed.proofs.Bus.{Zero, Gives, idled-typed}
 use Rattle.typed.proofs.Arrays.{store-all-typed}
 use Rattle.typed.proofs.Parts.{rx-received-typed, fill0-typed}
@@ -44,11 +45,7 @@ module _ (n : Chip) (t : TypedChip n) where
   overrun-typed k = overran-typed n t k
 
   judged-at-typed : (j : Judged) (k : FifoNumber) → Gives (judgedAt j k n)
-  judged-at-typed judged.Silence k = t
-  judged-at-typed judged.Nak k = marked-out-typed k
-  judged-at-typed judged.Stall k = t
-  judged-at-typed judged.Overrun k = overrun-typed k
-  judged-at-typed judged.Ack k = t
+  judged-at-typed j k = judged-by TypedChip n t j k (marked-out-typed k) (overrun-typed k)
 
 module _ (pid sound : Bool) (s : List ℕ) (z : Control) (t : Zero z) where
   stored-typed : Zero (zero.stored pid z s)
@@ -86,19 +83,9 @@ module _ (pid sound : Bool) (c : Chip) (t : TypedChip c) (s : List ℕ) where
       let j : Judged = setup.judgeSetup pid sound (length s) (c .control) in
       judged-at-typed _ (idled-typed _ (with-control-typed c t _ (after-setup-typed pid sound s (c .control) (t .control) j))) j fifo0
 
-  data-at-typed : (e : Endpoint) → Gives (dataAt e pid sound c s)
-  unfolding dataAt
-  data-at-typed e = by-test Gives _ (λ _. data-zero-typed) (λ _. data-receiver-typed (fifoOf e))
-
-  data-in-typed : (w : Wait) → Gives (dataIn w pid sound c s)
-  data-in-typed wait.Nothing = t
-  data-in-typed (wait.Handshake e) = t
-  data-in-typed (wait.Data e) = data-at-typed e
-  data-in-typed wait.Setup = data-setup-typed
-
   -- So does data.
   pub data-typed : TypedChip (dataNow pid sound c s .chip)
-  data-typed = data-in-typed (c .pending .wait)
+  data-typed = data-by TypedChip c t pid sound s data-zero-typed data-receiver-typed data-setup-typed
 
 -- ---- the lent memory
 

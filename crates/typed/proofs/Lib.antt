@@ -3,7 +3,9 @@ pub mod Arrays
 pub mod Parts
 pub mod Chip
 pub mod At
+pub mod Accesses
 pub mod Registers
+pub mod Steps
 pub mod Bus
 pub mod Data
 pub mod Step

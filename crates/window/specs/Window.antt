@@ -29,9 +29,12 @@ sizeOf Receive = rxSize
 unfoldable pub indexOf : FifoNumber → ℕ
 indexOf n = pick (eqb (n .0) 1) 0 (pick (eqb (n .0) 2) 1 2)
 
--- FIFO0's number
+-- a FIFO by its number; FIFO0 is 0
+abbrev pub numbered : ℕ → FifoNumber
+numbered n = record { 0 = n }
+
 abbrev pub fifo0 : FifoNumber
-fifo0 = record { 0 = 0 }
+fifo0 = numbered 0
 
 -- where the window of a kind and a number starts
 abbrev pub startOf : Kind → FifoNumber → ℕ

@@ -1,15 +1,14 @@
 -- Demand 3's words over a world: who has what, and how a failed transaction is recovered from.
 use mathlib.Core.Path.{_≡_}
 use mathlib.Core.Logic.{_⊎_}
-use mathlib.Core.Bool.{true, not, _&&_}
+use mathlib.Core.Bool.{Bool, true, not, _&&_}
 use mathlib.Core.List.{List, [], _∷_, _++_}
 use Rattle.choice.specs.Choice.{pick}
 use Rattle.window.specs.declared.Kind.the-variants as kind
-use Rattle.window.specs.Window.{startOf, sizeOf}
+use Rattle.window.specs.Window.{startOf, sizeOf, numbered}
 use Rattle.ring.specs.Ring.{contents}
 use Rattle.receiver.specs.declared.Receiver.{Receiver}
 use Rattle.state.specs.State.{Model, receiverAt}
-use Rattle.settings.specs.Settings.{numbered}
 use Rattle.typed.specs.Typed.{Bytes}
 use Rattle.driver.specs.declared.Driver.{Driver}
 use Rattle.world.specs.Host.{Packet, Fate, sound, damaged, lost, Action, offer, sendService, receiveService, access, take, inToken, ack, outToken, outData, other, timeout, late}
@@ -40,10 +39,13 @@ AllBytes [] = Unit
 AllBytes (x ∷ xs) = ActionBytes x × AllBytes xs
 
 -- "Packets taken count the one waiting in RXFIFO1 unless it is a repeat or damaged.": RX_LAST, no RX_ERR, TOGGLE as expected
+abbrev pub waits : Receiver → Bool → Bool
+waits r x = r .last && not (r .err) && same (r .toggle) x
+
 unfoldable pub waiting : Model → Driver → List Packet
 waiting m d =
     let r : Receiver = receiverAt (numbered 1) (m .chip) in
-    ifSo (r .last && not (r .err) && same (r .toggle) (d .expects))
+    ifSo (waits r (d .expects))
     (contents (startOf kind.Receive (numbered 1)) (sizeOf kind.Receive) (m .memory) (r .fifo .read) (r .fifo .write))
 
 -- the packets that the driver has

@@ -149,12 +149,12 @@ goes o h = record { expects = h .expects; sends = h .sends; holds = h .holds; pa
 abbrev pub same : Bool → Bool → Bool
 same x y = eqb (bitOf x) (bitOf y)
 
--- a packet with the toggle that it expects is got, and the toggle flips; "The host acknowledges a repeat and drops it."
+-- a packet with the toggle that it expects is got, and the toggle flips; a repeat is acknowledged and dropped
 unfoldable pub sees : Bool → Host → Host
 sees pid h =
     record { expects = pick (same pid (h .expects)) (not (h .expects)) (h .expects); sends = h .sends; holds = h .holds; packet = h .packet; at = acks }
 
--- what the host makes of an answer to its IN, if it saw it; "A broken packet is damaged data."
+-- what the host makes of an answer to its IN, if it saw it; a broken packet is damaged data
 unfoldable pub hostIn : Bool → Answer → Host → Host
 hostIn false x h = goes fails h
 hostIn true answer.Silence h = goes fails h

@@ -19,10 +19,10 @@ use Rattle.receiver.specs.Receiver as receiver
 use Rattle.control.specs.State as control
 use Rattle.control.specs.Registers as control-registers
 use Rattle.state.specs.declared.Chip.{Chip}
-use Rattle.state.specs.State.{senderAt, receiverAt, resetChip}
+use Rattle.state.specs.State.{senderAt, receiverAt, resetChip, zeroPlace}
 use Rattle.state.specs.Set.{withControl, withSender, withReceiver, withPending}
 use Rattle.slot.specs.Slot.{slotOf, sending}
-use Rattle.settings.specs.Settings.{operational, awaits, zero, heldByte, farWrite, nfsrWrite, maskWrite}
+use Rattle.settings.specs.Settings.{operational, awaits, heldByte, farWrite, nfsrWrite, maskWrite}
 
 -- "an RXC0 flush is held beside it"
 abbrev pub heldFlush : Chip → Chip
@@ -35,30 +35,30 @@ epcWrite0 v c = withControl (control-registers.withEpcByte v (c .control)) c
 
 -- "TXD write appends, ignored when full (FIFO0: also while received bytes stand or a handshake is awaited)"
 pub record ControlPut (v : ℕ) (c : Chip) (m : List ℕ) (r : Chip) (m′ : List ℕ) : Type 0 where
-  pub state : r ≡ pick (awaits zero c) c (withControl (control.withFifo (put0 (c .control .fifo)) (c .control)) c)
-  pub bytes : m′ ≡ pick (awaits zero c) m (put0Bytes (c .control .fifo) v m)
+  pub state : r ≡ pick (awaits zeroPlace c) c (withControl (control.withFifo (put0 (c .control .fifo)) (c .control)) c)
+  pub bytes : m′ ≡ pick (awaits zeroPlace c) m (put0Bytes (c .control .fifo) v m)
 
 -- TXC0: "while that endpoint awaits a handshake the whole byte is held"
 unfoldable pub controlCommand : ℕ → Chip → Chip
-controlCommand v c = pick (awaits zero c) (heldByte v c) (withControl (control-registers.txCommand (operational c) v (c .control)) c)
+controlCommand v c = pick (awaits zeroPlace c) (heldByte v c) (withControl (control-registers.txCommand (operational c) v (c .control)) c)
 
 -- RXC0: "an RXC0 flush is held beside it"; "Otherwise an RXC write acts at once: flush, then bits"
 unfoldable pub receiveCommand : ℕ → Chip → Chip
 receiveCommand v c =
-    pick (awaits zero c)
+    pick (awaits zeroPlace c)
     (let b : Chip = withControl (control-registers.rxBits (operational c) v (c .control)) c in pick (has 8 v) (heldFlush b) b)
     (withControl (control-registers.rxCommand (operational c) v (c .control)) c)
 
 unfoldable pub controlWrite : ℕ → ℕ → Chip → Chip
 controlWrite a v c =
     pick (eqb a 0x20) (epcWrite0 v c)
-    (pick (eqb a 0x21) (pick (awaits zero c) c (withControl (control.withFifo (put0 (c .control .fifo)) (c .control)) c))
+    (pick (eqb a 0x21) (pick (awaits zeroPlace c) c (withControl (control.withFifo (put0 (c .control .fifo)) (c .control)) c))
     (pick (eqb a 0x23) (controlCommand v c)
     (pick (eqb a 0x27) (receiveCommand v c)
     c)))
 
 unfoldable pub controlBytes : ℕ → ℕ → Chip → List ℕ → List ℕ
-controlBytes a v c m = pick (eqb a 0x21) (pick (awaits zero c) m (put0Bytes (c .control .fifo) v m)) m
+controlBytes a v c m = pick (eqb a 0x21) (pick (awaits zeroPlace c) m (put0Bytes (c .control .fifo) v m)) m
 
 pub record ControlWrite (a v : ℕ) (c : Chip) (m : List ℕ) (r : Chip) (m′ : List ℕ) : Type 0 where
   pub state : r ≡ controlWrite a v c

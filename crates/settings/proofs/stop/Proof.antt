@@ -1,7 +1,8 @@
 -- `stop` meets its contract: its calls are the definition's, one after another.
 -- Assumes nothing.
 use borrow.Author.Needs.{needs}
-use Rattle.settings.specs.Settings.{numbered, stopSender, stopReceiver, stopZero}
+use Rattle.settings.specs.Settings.{stopSender, stopReceiver, stopZero}
+use Rattle.window.specs.Window.{numbered}
 use mathlib.Core.Path.{ap, _∙_}
 use Rattle.settings.proofs.stop.Statement.{statement}
 use Rattle.settings.proofs.stop.Tie as tie
