@@ -1,6 +1,5 @@
 -- What the tokens leave, and what is answered to them, in the operational state.
 use Prim.Native.Nat.{ℕ}
-use mathlib.Core.Bool.{false}
 use lib.Dec.{eqb}
 use Rattle.choice.specs.Choice.{pick}
 use Rattle.window.specs.declared.FifoNumber.{FifoNumber}

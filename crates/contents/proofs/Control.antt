@@ -18,8 +18,7 @@ use Rattle.window.specs.declared.Kind.the-variants.{Control}
 use Rattle.window.specs.Window.{size0, fifo0}
 use Rattle.ring.specs.Ring.{level, full}
 use Rattle.fifo0.specs.Control.{reset0, contents0, rcount, shut0, put0, put0Bytes, take0, fits0, fill0, fill0Bytes, spend0}
-use Rattle.contents.proofs.Ring.{eight, Counters, level-adds, level-read, level-length, head-tail, contents-none, contents-spent}
-use Rattle.contents.proofs.Ring.{store-appends, storeAll-appends}
+use Rattle.contents.proofs.Ring.{eight, Counters, level-adds, level-read, level-length, head-tail, contents-none, contents-spent, store-appends, storeAll-appends}
 use Rattle.contents.proofs.Windows.{Kept, unchanged-kept, store-kept, storeAll-kept, window-fits}
 
 -- what a take gives is the head of the list and the new last byte; what it leaves is the tail

@@ -27,8 +27,7 @@ use Rattle.formed.specs.Formed.{wellFormed}
 use Rattle.typed.specs.Typed.{Byte, TypedSender, TypedReceiver, TypedChip}
 use Rattle.typed.proofs.Arrays.{array-replicate}
 use Rattle.typed.proofs.Accesses.{number, read-by, write-by}
-use Rattle.invariant.proofs.Facts.{WellSender, WellReceiver, Facts, known, shown}
-use Rattle.invariant.proofs.Facts.{with-control-well, with-sender-well, with-receiver-well, with-far-well, with-masks-well, with-events-well, with-pending-well}
+use Rattle.invariant.proofs.Facts.{WellSender, WellReceiver, Facts, known, shown, with-control-well, with-sender-well, with-receiver-well, with-far-well, with-masks-well, with-events-well, with-pending-well}
 use Rattle.invariant.proofs.Pending.{nothing-well, held-well, flush-well}
 use Rattle.invariant.proofs.Settings.{nfsr-keeps}
 

@@ -1,5 +1,5 @@
 // A reader keeps the lent trace together with its place in it. The functions over it are thin: the work is done by those of `trace`.
-// The two with plain parameters, below, serve whoever has a trace and a place.
+// The two with plain parameters, below, serve every other caller.
 ghost use mathlib.Core.Path.{_≡_};
 ghost use Rattle.trace.specs.Record.{readAt, stretch};
 ghost use Rattle.trace.specs.Meaning.{meaning};

@@ -21,8 +21,7 @@ use Rattle.standing.specs.Standing.{Standing}
 use Rattle.standing.proofs.Reaches.{pipes-range, out-not-sends, data-not-sends, other-not-for}
 use Rattle.standing.proofs.Events.{token-no-access, other-is-token, rest-ends}
 use Rattle.standing.proofs.Turns.{over-none}
-use Rattle.world.specs.Host.{Packet, over, fails, datas, Host, Fate, sound, damaged, lost, Action, offer, sendService, receiveService, access, take, inToken, ack, outToken, outData, other, timeout, late}
-use Rattle.world.specs.Host.{isOver, isAcks, isDatas, isOthers, otherToken, otherRest}
+use Rattle.world.specs.Host.{Packet, over, fails, datas, Host, Fate, sound, damaged, lost, Action, offer, sendService, receiveService, access, take, inToken, ack, outToken, outData, other, timeout, late, isOver, isAcks, isDatas, isOthers, otherToken, otherRest}
 use Rattle.world.specs.World.{World, answerTo, happens, goes, actIn, actAck, isAck, actOut, hostOut, sent, actData, afterToken, actOther, act}
 use Rattle.sendpipe.specs.Stage.{WaitingAt, AckedAt, FailedAt, Stage, idle, armed, waiting, acked, failed}
 use Rattle.sendpipe.proofs.Ends.{ack-acked, timeout-failed}

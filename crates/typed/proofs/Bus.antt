@@ -26,8 +26,7 @@ use Rattle.ends.specs.Ends.{idled, doneFlush, doneByte, senderByte, endedZero, 
 use Rattle.bus.specs.Bus.{awaiting, markedIn, inZero, inSender, inAt, inBy, inToken, outAt, outBy, outToken, setupToken}
 use Rattle.typed.specs.Typed.{Byte, Typed0, TypedSender, TypedChip, placeOf}
 use Rattle.typed.proofs.Parts.{command-typed, sent-typed, tx-command0-typed}
-use Rattle.typed.proofs.Chip.{with-control-typed, with-sender-typed, with-pending-typed}
-use Rattle.typed.proofs.Chip.{nakked-in-typed}
+use Rattle.typed.proofs.Chip.{with-control-typed, with-sender-typed, with-pending-typed, nakked-in-typed}
 use Rattle.typed.proofs.Steps.{ended-by, dropped-by, answered-zero-by, answered-sender-by}
 
 -- endpoint 0, and the chip beside an answer

@@ -24,15 +24,13 @@ use Rattle.state.specs.declared.Wait.{Wait}
 use Rattle.state.specs.declared.Wait.the-variants as wait
 use Rattle.state.specs.declared.Chip.{Chip}
 use Rattle.state.specs.State.{receiverAt, fifoOf}
-use Rattle.data.specs.Data.{markedOut, overrun, judgedAt, dataZero, dataZeroBytes, dataReceiver, dataReceiverBytes, dataSetup, dataSetupBytes}
-use Rattle.data.specs.Data.{dataAtBytes, dataInBytes, dataNow, dataNowBytes}
+use Rattle.data.specs.Data.{markedOut, overrun, judgedAt, dataZero, dataZeroBytes, dataReceiver, dataReceiverBytes, dataSetup, dataSetupBytes, dataAtBytes, dataInBytes, dataNow, dataNowBytes}
 use Rattle.typed.specs.Typed.{Bytes, TypedChip, TypedMemory}
 use Rattle.typed.proofs.Steps.{judged-by, data-by}
 use Rattle.typed.proofs.Bus.{Zero, Gives, idled-typed}
 use Rattle.typed.proofs.Arrays.{store-all-typed}
 use Rattle.typed.proofs.Parts.{rx-received-typed, fill0-typed}
-use Rattle.typed.proofs.Chip.{with-control-typed, with-receiver-typed}
-use Rattle.typed.proofs.Chip.{overran-typed, nakked-out-typed}
+use Rattle.typed.proofs.Chip.{with-control-typed, with-receiver-typed, overran-typed, nakked-out-typed}
 
 -- the answer to data, and its bits
 module _ (n : Chip) (t : TypedChip n) where

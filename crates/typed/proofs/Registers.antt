@@ -19,10 +19,8 @@ use Rattle.writes.specs.Write.{controlBytes, senderBytes, writeOf, bytesOf}
 use Rattle.typed.specs.Typed.{Byte, Bytes, TypedSender, TypedReceiver, TypedMasks, TypedEvents, TypedChip, TypedMemory}
 use Rattle.typed.proofs.Arrays.{store-typed}
 use Rattle.typed.proofs.Accesses.{number, read-by, write-by}
-use Rattle.typed.proofs.Parts.{put-typed, command-typed, rx-command-typed, rx-take-typed, put0-typed, take0-typed}
-use Rattle.typed.proofs.Parts.{tx-command0-typed, rx-bits0-typed, rx-command0-typed}
-use Rattle.typed.proofs.Chip.{with-control-typed, with-sender-typed, with-receiver-typed, with-nfsr-typed, with-far-typed}
-use Rattle.typed.proofs.Chip.{with-masks-typed, with-events-typed, with-pending-typed, reset-chip-typed, reset-memory-typed}
+use Rattle.typed.proofs.Parts.{put-typed, command-typed, rx-command-typed, rx-take-typed, put0-typed, take0-typed, tx-command0-typed, rx-bits0-typed, rx-command0-typed}
+use Rattle.typed.proofs.Chip.{with-control-typed, with-sender-typed, with-receiver-typed, with-nfsr-typed, with-far-typed, with-masks-typed, with-events-typed, with-pending-typed, reset-chip-typed, reset-memory-typed}
 
 -- ---- reads
 

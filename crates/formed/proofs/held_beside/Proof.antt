@@ -3,8 +3,6 @@
 use borrow.Author.Needs.{needs}
 use Rattle.formed.specs.Formed.{flushBeside, heldBeside}
 use borrow.Author.Tests.{eq-eqb, ne-eqb}
-use Rattle.formed.specs.Formed.{heldBeside}
-use borrow.Author.Tests.{eq-eqb, ne-eqb}
 use Rattle.formed.proofs.held_beside.Statement.{statement}
 use Rattle.formed.proofs.held_beside.Tie as tie
 

@@ -4,7 +4,6 @@ use borrow.Author.Tests.{ne-eqb}
 -- `receives` meets its contract: each place by its number.
 -- Assumes nothing.
 use Rattle.formed.specs.Formed.{receives}
-use borrow.Author.Tests.{ne-eqb}
 use Rattle.formed.proofs.receives.Statement.{statement}
 use Rattle.formed.proofs.receives.Tie as tie
 

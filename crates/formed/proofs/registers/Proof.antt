@@ -4,7 +4,6 @@ use borrow.Author.Tests.{lt-ltb, le-ltb}
 -- `registers` meets its contract: two tests.
 -- Assumes nothing.
 use Rattle.formed.specs.Formed.{registersWell}
-use borrow.Author.Tests.{lt-ltb, le-ltb}
 use Rattle.formed.proofs.registers.Statement.{statement}
 use Rattle.formed.proofs.registers.Tie as tie
 

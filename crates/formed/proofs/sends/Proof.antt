@@ -4,7 +4,6 @@ use borrow.Author.Tests.{ne-eqb}
 -- `sends` meets its contract: each place by its number.
 -- Assumes nothing.
 use Rattle.formed.specs.Formed.{sends}
-use borrow.Author.Tests.{ne-eqb}
 use Rattle.formed.proofs.sends.Statement.{statement}
 use Rattle.formed.proofs.sends.Tie as tie
 

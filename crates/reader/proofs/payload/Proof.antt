@@ -6,8 +6,7 @@ use Rattle.trace.specs.declared.Span.{Span}
 use Rattle.trace.proofs.Span as S
 use Rattle.trace.proofs.Span.Laws as S′
 use Rattle.reader.specs.declared.Reader.{Reader}
-use Rattle.reader.proofs.Walk.{_≡_, refl, ℕ, List, [], _∷_, URA, Val, SProp, id⊢, Lft, Share, Fml, ftrue, flft, Memory, Routine, Heap, Calls, Loops, Atoms, Fun, givenOf, Given, Contract, FmC, Triple, cited, owns, Is, RefT, now, Told, Goes, by-walk}
-use Rattle.reader.proofs.Walk.{‵, raw, _⊛_, _$_, _∵_, !, qed, move, drop, use1, use2, split, fsplit, fjoin, frame, done, nothing, asks-no-more, enter, alloc1, alloc0, params1, pass1, pass0, look, init, stop, from, load, and-then, no-more, calls, land, returns, lets-go, free0, ends, says}
+use Rattle.reader.proofs.Walk.{_≡_, refl, ℕ, List, [], _∷_, URA, Val, SProp, id⊢, Lft, Share, Fml, ftrue, flft, Memory, Routine, Heap, Calls, Loops, Atoms, Fun, givenOf, Given, Contract, FmC, Triple, cited, owns, Is, RefT, now, Told, Goes, by-walk, ‵, raw, _⊛_, _$_, _∵_, !, qed, move, drop, use1, use2, split, fsplit, fjoin, frame, done, nothing, asks-no-more, enter, alloc1, alloc0, params1, pass1, pass0, look, init, stop, from, load, and-then, no-more, calls, land, returns, lets-go, free0, ends, says}
 use Rattle.reader.proofs.Held.{Bytes, bytes-vals, bytes-tells, val, OfBytes, of-bytes, of-local, bytes-twice, span-vals, span-tells, OfSpan, of-span, spans}
 use Rattle.reader.proofs.Reader.new as new
 use Rattle.reader.proofs.Reader.new.Symbol.{name as #new}

@@ -8,8 +8,7 @@ use Rattle.trace.specs.Meaning.{meaning}
 use Rattle.trace.proofs.Found as S
 use Rattle.trace.proofs.Found.Laws as S′
 use Rattle.reader.specs.declared.Reader.{Reader}
-use Rattle.reader.proofs.Walk.{_≡_, refl, ℕ, _<_, _^_, List, [], _∷_, URA, Val, vint, w64, SProp, id⊢, Lft, Share, Fml, ftrue, flft, Memory, Routine, Heap, Calls, Loops, Atoms, Fun, givenOf, Given, Contract, FmC, Triple, cited, owns, uint-vals, uint-tells, usize, RefT, now, Told, Goes, by-walk}
-use Rattle.reader.proofs.Walk.{‵, raw, _⊛_, _$_, _∵_, !, qed, move, drop, use1, use2, split, fsplit, fjoin, frame, done, nothing, number, asks-no-more, enter, alloc1, alloc0, params1, pass1, pass0, look, init, stop, from, load, and-then, no-more, calls, land, returns, lets-go, free0, ends, says}
+use Rattle.reader.proofs.Walk.{_≡_, refl, ℕ, _<_, _^_, List, [], _∷_, URA, Val, vint, w64, SProp, id⊢, Lft, Share, Fml, ftrue, flft, Memory, Routine, Heap, Calls, Loops, Atoms, Fun, givenOf, Given, Contract, FmC, Triple, cited, owns, uint-vals, uint-tells, usize, RefT, now, Told, Goes, by-walk, ‵, raw, _⊛_, _$_, _∵_, !, qed, move, drop, use1, use2, split, fsplit, fjoin, frame, done, nothing, number, asks-no-more, enter, alloc1, alloc0, params1, pass1, pass0, look, init, stop, from, load, and-then, no-more, calls, land, returns, lets-go, free0, ends, says}
 use Rattle.reader.proofs.Held.{Bytes, bytes-vals, bytes-tells, val, OfBytes, of-bytes, of-local, bytes-twice}
 use Rattle.reader.proofs.Reader.new as new
 use Rattle.reader.proofs.Reader.new.Symbol.{name as #new}

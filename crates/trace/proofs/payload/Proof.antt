@@ -5,8 +5,6 @@ use Prim.Native.Nat.{ℕ, _-_, _≤_}
 use mathlib.Core.List.{List}
 use lib.ListN.{length, drop, take, drop-of-length-le, length-drop}
 use lib.Seq.{take-nil, take-all}
-use lib.ListN.{drop-of-length-le, length-drop}
-use Prim.Native.Nat.{_-_}
 use native.Mathlib.Omega.{arith}
 use mathlib.Core.Path.{_≡_}
 use Rattle.trace.proofs.payload.Statement.{statement}

@@ -2,8 +2,7 @@
 -- What the reader owns is had twice: once for the exit, and the slice of the other goes into the result. Assumes nothing.
 use Rattle.reader.specs.declared.Reader.{Reader}
 use Rattle.reader.proofs.Reader.Laws as T′
-use Rattle.reader.proofs.Walk.{refl, ℕ, _<_, _^_, [], _∷_, URA, vint, w64, SProp, Lft, Share, Fml, ftrue, flft, Memory, Routine, Heap, Calls, Loops, Atoms, Fun, givenOf, Given, owns, uint-vals, uint-tells, usize, Told, Goes, by-walk}
-use Rattle.reader.proofs.Walk.{‵, _⊛_, _$_, _∵_, !, qed, by, move, use1, split, fsplit, fjoin, frame, enter, alloc1, alloc0, params1, pass1, pass0, look, look-in, init, whole, sub, fld, stop, from, load, of-opd, and-then, no-more, agg, assigns, returns, lets-go, free0, ends, says}
+use Rattle.reader.proofs.Walk.{refl, ℕ, _<_, _^_, [], _∷_, URA, vint, w64, SProp, Lft, Share, Fml, ftrue, flft, Memory, Routine, Heap, Calls, Loops, Atoms, Fun, givenOf, Given, owns, uint-vals, uint-tells, usize, Told, Goes, by-walk, ‵, _⊛_, _$_, _∵_, !, qed, by, move, use1, split, fsplit, fjoin, frame, enter, alloc1, alloc0, params1, pass1, pass0, look, look-in, init, whole, sub, fld, stop, from, load, of-opd, and-then, no-more, agg, assigns, returns, lets-go, free0, ends, says}
 use Rattle.reader.proofs.Held.{Held, held-vals, held-tells, Bytes, val, OfHeld, of-held, twice, trace-out, shut}
 use Rattle.reader.proofs.Reader.moved.Key.{name as #moved}
 use Rattle.reader.proofs.Reader.moved as moved

@@ -3,8 +3,7 @@
 use lib.Dec.{lit<}
 use Rattle.reader.specs.declared.Reader.{Reader}
 use Rattle.reader.proofs.Reader.Laws as T′
-use Rattle.reader.proofs.Walk.{refl, ℕ, List, [], _∷_, URA, SProp, Lft, Share, Fml, ftrue, flft, Memory, Routine, Heap, Calls, Loops, Atoms, Fun, givenOf, Given, owns, RefT, Told, Goes, by-walk}
-use Rattle.reader.proofs.Walk.{‵, _⊛_, _$_, _∵_, !, qed, by, move, use1, split, fsplit, fjoin, frame, enter, alloc1, alloc0, params1, pass1, pass0, look, init, stop, from, load, lit, and-then, no-more, agg, assigns, returns, lets-go, free0, ends, says}
+use Rattle.reader.proofs.Walk.{refl, ℕ, List, [], _∷_, URA, SProp, Lft, Share, Fml, ftrue, flft, Memory, Routine, Heap, Calls, Loops, Atoms, Fun, givenOf, Given, owns, RefT, Told, Goes, by-walk, ‵, _⊛_, _$_, _∵_, !, qed, by, move, use1, split, fsplit, fjoin, frame, enter, alloc1, alloc0, params1, pass1, pass0, look, init, stop, from, load, lit, and-then, no-more, agg, assigns, returns, lets-go, free0, ends, says}
 use Rattle.reader.proofs.Held.{Bytes, bytes-vals, bytes-tells, val, OfBytes, of-bytes, bytes-twice, shut}
 use Rattle.reader.proofs.Reader.new.Key.{name as #new}
 use Rattle.reader.proofs.Reader.new as new

@@ -11,8 +11,7 @@ use Rattle.trace.proofs.read.Symbol.{name as #read}
 use Rattle.trace.proofs.read.Met as read-thm
 use Rattle.reader.specs.declared.Reader.{Reader}
 use Rattle.reader.proofs.Reader.Laws as T′
-use Rattle.reader.proofs.Walk.{_≡_, refl, [], _∷_, URA, vint, w64, SProp, id⊢, Lft, Share, Fml, ftrue, flft, Memory, Routine, Heap, Calls, Loops, Atoms, Fun, givenOf, Given, Contract, FmC, Triple, cited, owns, now, Told, Goes, by-walk}
-use Rattle.reader.proofs.Walk.{‵, raw, _⊛_, _$_, _∵_, !, qed, move, drop, use1, use2, split, fsplit, fjoin, frame, done, nothing, number, asks-no-more, enter, alloc1, alloc0, params1, pass1, pass0, look, look-in, init, whole, sub, fld, stop, from, load, of-opd, and-then, no-more, assigns, calls, land, returns, lets-go, free0, ends, says}
+use Rattle.reader.proofs.Walk.{_≡_, refl, [], _∷_, URA, vint, w64, SProp, id⊢, Lft, Share, Fml, ftrue, flft, Memory, Routine, Heap, Calls, Loops, Atoms, Fun, givenOf, Given, Contract, FmC, Triple, cited, owns, now, Told, Goes, by-walk, ‵, raw, _⊛_, _$_, _∵_, !, qed, move, drop, use1, use2, split, fsplit, fjoin, frame, done, nothing, number, asks-no-more, enter, alloc1, alloc0, params1, pass1, pass0, look, look-in, init, whole, sub, fld, stop, from, load, of-opd, and-then, no-more, assigns, calls, land, returns, lets-go, free0, ends, says}
 use Rattle.reader.proofs.Held.{Held, held-vals, held-tells, Bytes, val, OfHeld, of-held, twice, trace-out}
 use Rattle.reader.proofs.Reader.next.Key.{name as #next}
 use Rattle.reader.proofs.Reader.next as next

@@ -9,8 +9,7 @@ use Rattle.trace.proofs.payload.Symbol.{name as #part}
 use Rattle.trace.proofs.payload.Met as part-thm
 use Rattle.reader.specs.declared.Reader.{Reader}
 use Rattle.reader.proofs.Reader.Laws as T′
-use Rattle.reader.proofs.Walk.{_≡_, refl, ℕ, List, [], _∷_, URA, SProp, id⊢, Lft, Share, Fml, ftrue, flft, Memory, Routine, Heap, Calls, Loops, Atoms, Fun, givenOf, Given, Contract, FmC, Triple, cited, owns, Is, RefT, now, Told, Goes, by-walk}
-use Rattle.reader.proofs.Walk.{‵, raw, _⊛_, _$_, _∵_, !, qed, move, drop, use1, use2, split, fsplit, fjoin, frame, done, nothing, asks-no-more, enter, alloc1, alloc0, params1, pass1, pass0, look, look-in, init, whole, sub, fld, stop, from, load, of-opd, and-then, no-more, assigns, calls, land, returns, lets-go, free0, ends, says}
+use Rattle.reader.proofs.Walk.{_≡_, refl, ℕ, List, [], _∷_, URA, SProp, id⊢, Lft, Share, Fml, ftrue, flft, Memory, Routine, Heap, Calls, Loops, Atoms, Fun, givenOf, Given, Contract, FmC, Triple, cited, owns, Is, RefT, now, Told, Goes, by-walk, ‵, raw, _⊛_, _$_, _∵_, !, qed, move, drop, use1, use2, split, fsplit, fjoin, frame, done, nothing, asks-no-more, enter, alloc1, alloc0, params1, pass1, pass0, look, look-in, init, whole, sub, fld, stop, from, load, of-opd, and-then, no-more, assigns, calls, land, returns, lets-go, free0, ends, says}
 use Rattle.reader.proofs.Held.{Held, held-vals, held-tells, Bytes, val, OfHeld, of-held, of-bytes, twice, trace-out, span-vals, span-tells, OfSpan, of-span, spans}
 use Rattle.reader.proofs.Reader.payload.Key.{name as #payload}
 use Rattle.reader.proofs.Reader.payload as payload
