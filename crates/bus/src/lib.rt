@@ -1,7 +1,9 @@
 // The chip at a token in the operational state: IN, OUT, SETUP.
 // The definitions that the contracts cite are in specs/.
 ghost use mathlib.Core.Path.{_≡_};
-ghost use Rattle.answer.specs.Answer.{packetOf};
+ghost use Rattle.answer.specs.declared.Answer.the-variants.{Nak};
+ghost use Rattle.answer.specs.Answer.{gives, silent, packetOf};
+ghost use Rattle.state.specs.declared.Wait.the-variants.{Handshake, Setup};
 ghost use Rattle.bus.specs.Bus.{awaiting, markedIn, answeredZero, inZero, answeredSender, inSender, inAt, inToken};
 ghost use Rattle.bus.specs.Bus.{outAt, outToken, setupToken};
 use answer::Answer;
@@ -22,29 +24,40 @@ use window::Kind;
 use window::Window;
 
 // Something is awaited, and nothing held.
-fn awaiting(c: Chip, w: Wait) -> Chip
-    ensures { λ r. ⌜ r ≡ awaiting w c ⌝ }
+fn awaiting(mut c: Chip, wait: Wait) -> Chip
+    ensures { λ r. ⌜ r ≡ awaiting wait c ⌝ }
 {
-    let mut n = c;
     let p = Pending {
-        wait: w,
+        wait,
         holds: false,
         held: 0,
         flush: false,
     };
-    n.pending = p;
-    n
+    c.pending = p;
+    c
 }
 
-// NAK to an IN: its NAKEV bit.
-fn marked_in(c: Chip, number: FifoNumber) -> Chip
-    ensures { λ r. ⌜ r ≡ markedIn number c ⌝ }
+// NAK to an IN, and its NAKEV bit.
+fn nak(mut c: Chip, number: FifoNumber) -> Out
+    ensures { λ r. ⌜ r ≡ gives (markedIn number c) Nak ⌝ }
 {
-    let mut n = c;
-    let e = c.events;
-    let f = e.nakked_in(number);
-    n.events = f;
-    n
+    let mut e = c.events;
+    e = e.nakked_in(number);
+    c.events = e;
+    Out {
+        chip: c,
+        answer: Answer::Nak,
+    }
+}
+
+// A packet: a handshake is awaited.
+fn data(c: Chip, e: Endpoint, answer: Answer) -> Out
+    ensures { λ r. ⌜ r ≡ gives (awaiting (Handshake e) c) answer ⌝ }
+{
+    Out {
+        chip: awaiting(c, Wait::Handshake(e)),
+        answer,
+    }
 }
 
 // All bytes held.
@@ -64,10 +77,10 @@ pub fn in_token(c: Chip, address: u8, endpoint: BusEndpoint) -> Out
     ensures { λ r. ⌜ r ≡ inToken address endpoint c ⌝ }
 {
     let m = tokens::winner(tokens::in_mask(c, address, endpoint));
-    match m {
-        Match::Nobody => answer::silent(c),
-        Match::Takes(e) => in_at(c, e),
-    }
+    let Match::Takes(e) = m else {
+        return answer::silent(c);
+    };
+    in_at(c, e)
 }
 
 fn in_at(c: Chip, e: Endpoint) -> Out
@@ -80,15 +93,14 @@ fn in_at(c: Chip, e: Endpoint) -> Out
 }
 
 // Endpoint 0.
-fn in_zero(c: Chip) -> Out
+fn in_zero(mut c: Chip) -> Out
     ensures { λ r. ⌜ r ≡ inZero c ⌝ }
 {
     let z = c.control;
     let a = controlbus::answer(z);
     let y = controlbus::sent(z);
-    let mut n = c;
-    n.control = y;
-    answered_zero(a, z, n)
+    c.control = y;
+    answered_zero(a, z, c)
 }
 
 fn answered_zero(a: Sent0, z: Control, n: Chip) -> Out
@@ -98,22 +110,13 @@ fn answered_zero(a: Sent0, z: Control, n: Chip) -> Out
     let p = all_held(Kind::Control, FifoNumber(0), f.read, f.write);
     match a {
         Sent0::Silence => answer::silent(n),
-        Sent0::Nak => Out {
-            chip: marked_in(n, FifoNumber(0)),
-            answer: Answer::Nak,
-        },
+        Sent0::Nak => nak(n, FifoNumber(0)),
         Sent0::Stall => Out {
             chip: n,
             answer: Answer::Stall,
         },
-        Sent0::Data0 => Out {
-            chip: awaiting(n, Wait::Handshake(Endpoint(0))),
-            answer: Answer::Data0(p),
-        },
-        Sent0::Data1 => Out {
-            chip: awaiting(n, Wait::Handshake(Endpoint(0))),
-            answer: Answer::Data1(p),
-        },
+        Sent0::Data0 => data(n, Endpoint(0), Answer::Data0(p)),
+        Sent0::Data1 => data(n, Endpoint(0), Answer::Data1(p)),
     }
 }
 
@@ -135,10 +138,7 @@ fn answered_sender(a: Sent, e: Endpoint, s: Sender, n: Chip) -> Out
     let number = e.fifo();
     let p = all_held(Kind::Transmit, number, f.read, f.write);
     match a {
-        Sent::Nak => Out {
-            chip: marked_in(n, number),
-            answer: Answer::Nak,
-        },
+        Sent::Nak => nak(n, number),
         Sent::Stall => Out {
             chip: n,
             answer: Answer::Stall,
@@ -147,14 +147,8 @@ fn answered_sender(a: Sent, e: Endpoint, s: Sender, n: Chip) -> Out
             chip: n,
             answer: Answer::Broken,
         },
-        Sent::Data0 => Out {
-            chip: awaiting(n, Wait::Handshake(e)),
-            answer: Answer::Data0(p),
-        },
-        Sent::Data1 => Out {
-            chip: awaiting(n, Wait::Handshake(e)),
-            answer: Answer::Data1(p),
-        },
+        Sent::Data0 => data(n, e, Answer::Data0(p)),
+        Sent::Data1 => data(n, e, Answer::Data1(p)),
     }
 }
 
@@ -163,23 +157,21 @@ pub fn out_token(c: Chip, address: u8, endpoint: BusEndpoint) -> Out
     ensures { λ r. ⌜ r ≡ outToken address endpoint c ⌝ }
 {
     let m = tokens::winner(tokens::out_mask(c, address, endpoint));
-    match m {
-        Match::Nobody => answer::silent(c),
-        Match::Takes(e) => answer::silent(out_at(c, e)),
-    }
+    let Match::Takes(e) = m else {
+        return answer::silent(c);
+    };
+    answer::silent(out_at(c, e))
 }
 
-fn out_at(c: Chip, e: Endpoint) -> Chip
+fn out_at(mut c: Chip, e: Endpoint) -> Chip
     ensures { λ r. ⌜ r ≡ outAt e c ⌝ }
 {
-    let mut n = c;
     if e.0 == 0 {
-        let z = c.control;
-        let y = controlbus::out_token(z);
-        n.control = y;
-        return awaiting(n, Wait::Data(e));
+        let y = controlbus::out_token(c.control);
+        c.control = y;
+        return awaiting(c, Wait::Data(e));
     }
-    awaiting(n, Wait::Data(e))
+    awaiting(c, Wait::Data(e))
 }
 
 // A SETUP token: only for endpoint 0.
@@ -187,7 +179,13 @@ pub fn setup_token(c: Chip, address: u8, endpoint: BusEndpoint) -> Out
     ensures { λ r. ⌜ r ≡ setupToken address endpoint c ⌝ }
 {
     if tokens::zero_takes(c, address, endpoint) {
-        return answer::silent(awaiting(c, Wait::Setup));
+        return setup_at(c);
     }
     answer::silent(c)
+}
+
+fn setup_at(c: Chip) -> Out
+    ensures { λ r. ⌜ r ≡ silent (awaiting Setup c) ⌝ }
+{
+    answer::silent(awaiting(c, Wait::Setup))
 }

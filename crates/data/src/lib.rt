@@ -1,7 +1,8 @@
 // Data after an OUT or a SETUP token, by what is awaited; data that nobody awaits is met with silence.
 // What is answered is judged first; the bytes go into the lent memory. The definitions that the contracts cite are in specs/.
 ghost use mathlib.Core.Path.{_≡_};
-ghost use Rattle.answer.specs.Answer.{Gives};
+ghost use Rattle.answer.specs.declared.Answer.the-variants.{Nak};
+ghost use Rattle.answer.specs.Answer.{gives, Gives};
 ghost use Rattle.data.specs.Data.{markedOut, overrun, judgedAt, dataZero, dataZeroBytes, dataReceiver};
 ghost use Rattle.data.specs.Data.{dataReceiverBytes, dataSetup, dataSetupBytes, dataAt, dataAtBytes, dataNow, dataNowBytes};
 use answer::Answer;
@@ -12,25 +13,29 @@ use state::Wait;
 use verdict::Judged;
 use window::FifoNumber;
 
-// NAK to an OUT: its NAKEV bit. No room: the overrun bit.
-fn marked_out(c: Chip, number: FifoNumber) -> Chip
-    ensures { λ r. ⌜ r ≡ markedOut number c ⌝ }
+// NAK to an OUT, and its NAKEV bit. No room: the overrun bit, and NAK without its NAKEV bit.
+fn nak(mut c: Chip, number: FifoNumber) -> Out
+    ensures { λ r. ⌜ r ≡ gives (markedOut number c) Nak ⌝ }
 {
-    let mut n = c;
-    let e = c.events;
-    let f = e.nakked_out(number);
-    n.events = f;
-    n
+    let mut e = c.events;
+    e = e.nakked_out(number);
+    c.events = e;
+    Out {
+        chip: c,
+        answer: Answer::Nak,
+    }
 }
 
-fn overrun(c: Chip, number: FifoNumber) -> Chip
-    ensures { λ r. ⌜ r ≡ overrun number c ⌝ }
+fn overrun(mut c: Chip, number: FifoNumber) -> Out
+    ensures { λ r. ⌜ r ≡ gives (overrun number c) Nak ⌝ }
 {
-    let mut n = c;
-    let e = c.events;
-    let f = e.overran(number);
-    n.events = f;
-    n
+    let mut e = c.events;
+    e = e.overran(number);
+    c.events = e;
+    Out {
+        chip: c,
+        answer: Answer::Nak,
+    }
 }
 
 // Data.
@@ -57,32 +62,32 @@ fn data_at(c: Chip, memory: &mut [u8; 392], e: Endpoint, pid: bool, sound: bool,
 }
 
 // Endpoint 0.
-fn data_zero(c: Chip, memory: &mut [u8; 392], pid: bool, sound: bool, s: &[u8]) -> Out
+fn data_zero(mut c: Chip, memory: &mut [u8; 392], pid: bool, sound: bool, s: &[u8]) -> Out
     ensures { λ r. ⌜ Gives (dataZero pid sound c (now (s .entry))) (dataZeroBytes sound c (now (s .entry)) (now (memory .entry))) r (now (memory .exit)) ⌝ }
 {
-    let z = c.control;
+    let mut z = c.control;
     let j = controlbus::judge(z, sound, s.len());
-    let y = controlbus::received(z, memory, pid, sound, s);
-    let mut n = c;
-    n.control = y;
-    judged_at(j, FifoNumber(0), ends::idled(n))
+    z = controlbus::received(z, memory, pid, sound, s);
+    c.control = z;
+    c = ends::idled(c);
+    judged_at(j, FifoNumber(0), c)
 }
 
 // After a SETUP token.
-fn data_setup(c: Chip, memory: &mut [u8; 392], pid: bool, sound: bool, s: &[u8]) -> Out
+fn data_setup(mut c: Chip, memory: &mut [u8; 392], pid: bool, sound: bool, s: &[u8]) -> Out
     ensures { λ r. ⌜ Gives (dataSetup pid sound c (now (s .entry))) (dataSetupBytes pid sound c (now (s .entry)) (now (memory .entry))) r (now (memory .exit)) ⌝ }
 {
-    let z = c.control;
+    let mut z = c.control;
     let j = controlbus::judge_setup(z, pid, sound, s.len());
-    let y = controlbus::received_setup(z, memory, pid, sound, s);
-    let mut n = c;
-    n.control = y;
-    judged_at(j, FifoNumber(0), ends::idled(n))
+    z = controlbus::received_setup(z, memory, pid, sound, s);
+    c.control = z;
+    c = ends::idled(c);
+    judged_at(j, FifoNumber(0), c)
 }
 
 // Endpoints 2, 4, 6.
 fn data_receiver(
-    c: Chip,
+    mut c: Chip,
     memory: &mut [u8; 392],
     number: FifoNumber,
     pid: bool,
@@ -91,11 +96,12 @@ fn data_receiver(
 ) -> Out
     ensures { λ r. ⌜ Gives (dataReceiver number pid sound c (now (s .entry))) (dataReceiverBytes number sound c (now (s .entry)) (now (memory .entry))) r (now (memory .exit)) ⌝ }
 {
-    let t = c.receiver(number);
+    let mut t = c.receiver(number);
     let j = t.judge(sound, s.len());
-    let u = t.received(memory, number, pid, sound, s);
-    let n = c.with_receiver(number, u);
-    judged_at(j, number, ends::idled(n))
+    t = t.received(memory, number, pid, sound, s);
+    c = c.with_receiver(number, t);
+    c = ends::idled(c);
+    judged_at(j, number, c)
 }
 
 // The answer to data, and its bits.
@@ -104,18 +110,12 @@ fn judged_at(j: Judged, number: FifoNumber, n: Chip) -> Out
 {
     match j {
         Judged::Silence => answer::silent(n),
-        Judged::Nak => Out {
-            chip: marked_out(n, number),
-            answer: Answer::Nak,
-        },
+        Judged::Nak => nak(n, number),
         Judged::Stall => Out {
             chip: n,
             answer: Answer::Stall,
         },
-        Judged::Overrun => Out {
-            chip: overrun(n, number),
-            answer: Answer::Nak,
-        },
+        Judged::Overrun => overrun(n, number),
         Judged::Ack => Out {
             chip: n,
             answer: Answer::Ack,

@@ -1,8 +1,9 @@
 // The event registers TXEV, RXEV and NAKEV, the main event register MAEV and the interrupt line, worked out from the state in one place.
 // The definitions that the contracts cite are in specs/.
 ghost use mathlib.Core.Path.{_≡_};
-ghost use Prim.Native.Nat.{_≤_};
-ghost use Rattle.interrupt.specs.Interrupt.{shares, reported, txev, rxev, nakev, maev, line};
+ghost use Prim.Native.Nat.{_+_, _*_, _≤_};
+ghost use Rattle.epc.specs.Bits.{bitOf};
+ghost use Rattle.interrupt.specs.Interrupt.{shares, flagOf, reported, txev, rxev, nakev, maev, line};
 use receiver::Receiver;
 use state::Chip;
 
@@ -14,17 +15,21 @@ fn shares(a: u8, b: u8) -> bool
     c != 0
 }
 
-// RX_LAST or RX_ERR of a receive FIFO, as a bit.
-fn reported(r: Receiver) -> u8
-    ensures { λ b. ⌜ (b ≡ reported r) × (b ≤ 1) ⌝ }
+// Four flags, by FIFO number, at bits 3..0.
+fn flags(f: [bool; 4]) -> u8
+    ensures { λ r. ⌜ (r ≡ flagOf 0 f + 2 * flagOf 1 f + 4 * flagOf 2 f + 8 * flagOf 3 f) × (r ≤ 15) ⌝ }
+{
+    epc::bit(f[0]) + 2 * epc::bit(f[1]) + 4 * epc::bit(f[2]) + 8 * epc::bit(f[3])
+}
+
+// RX_LAST or RX_ERR of a receive FIFO.
+fn reported(r: Receiver) -> bool
+    ensures { λ b. ⌜ bitOf b ≡ reported r ⌝ }
 {
     if r.last {
-        return 1;
+        return true;
     }
-    if r.err {
-        return 1;
-    }
-    0
+    r.err
 }
 
 pub fn txev(c: Chip) -> u8
@@ -34,11 +39,7 @@ pub fn txev(c: Chip) -> u8
     let s = c.senders[0];
     let t = c.senders[1];
     let u = c.senders[2];
-    let done = epc::bit(z.done)
-        + 2 * epc::bit(s.done)
-        + 4 * epc::bit(t.done)
-        + 8 * epc::bit(u.done);
-    done + 32 * epc::bit(s.urun) + 64 * epc::bit(t.urun) + 128 * epc::bit(u.urun)
+    flags([z.done, s.done, t.done, u.done]) + 16 * flags([false, s.urun, t.urun, u.urun])
 }
 
 pub fn rxev(c: Chip) -> u8
@@ -50,8 +51,7 @@ pub fn rxev(c: Chip) -> u8
     let u = c.receivers[2];
     let e = c.events;
     let o = e.over;
-    let got = epc::bit(z.last) + 2 * reported(s) + 4 * reported(t) + 8 * reported(u);
-    got + 16 * epc::bit(o[0]) + 32 * epc::bit(o[1]) + 64 * epc::bit(o[2]) + 128 * epc::bit(o[3])
+    flags([z.last, reported(s), reported(t), reported(u)]) + 16 * flags(o)
 }
 
 pub fn nakev(c: Chip) -> u8
@@ -60,8 +60,7 @@ pub fn nakev(c: Chip) -> u8
     let e = c.events;
     let i = e.nakin;
     let o = e.nakout;
-    let low = epc::bit(i[0]) + 2 * epc::bit(i[1]) + 4 * epc::bit(i[2]) + 8 * epc::bit(i[3]);
-    low + 16 * epc::bit(o[0]) + 32 * epc::bit(o[1]) + 64 * epc::bit(o[2]) + 128 * epc::bit(o[3])
+    flags(i) + 16 * flags(o)
 }
 
 pub fn maev(c: Chip) -> u8

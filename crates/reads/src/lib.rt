@@ -3,7 +3,6 @@
 ghost use mathlib.Core.Path.{_≡_};
 ghost use Rattle.reads.specs.Read.{shown, farOf, maskOf, rxevRead, nakevRead, controlRead, senderRead, receiverRead, endpointRead, readOf};
 use state::Chip;
-use state::Events;
 use window::FifoNumber;
 
 // What a read gives: the next state and the value.
@@ -60,66 +59,53 @@ fn mask(c: Chip, which: u8) -> ReadOut
 }
 
 // RXEV: a read clears the overruns.
-fn rxev(c: Chip) -> ReadOut
+fn rxev(mut c: Chip) -> ReadOut
     ensures { λ r. ⌜ r ≡ rxevRead c ⌝ }
 {
     let value = interrupt::rxev(c);
-    let mut n = c;
-    let old = c.events;
-    let i = old.nakin;
-    let o = old.nakout;
-    let e = Events {
-        over: [false; 4],
-        nakin: i,
-        nakout: o,
-    };
-    n.events = e;
-    ReadOut { chip: n, value }
+    let mut e = c.events;
+    e.over = [false; 4];
+    c.events = e;
+    ReadOut { chip: c, value }
 }
 
 // NAKEV: a read clears it.
-fn nakev(c: Chip) -> ReadOut
+fn nakev(mut c: Chip) -> ReadOut
     ensures { λ r. ⌜ r ≡ nakevRead c ⌝ }
 {
     let value = interrupt::nakev(c);
-    let mut n = c;
-    let old = c.events;
-    let o = old.over;
-    let e = Events {
-        over: o,
-        nakin: [false; 4],
-        nakout: [false; 4],
-    };
-    n.events = e;
-    ReadOut { chip: n, value }
+    let mut e = c.events;
+    e.nakin = [false; 4];
+    e.nakout = [false; 4];
+    c.events = e;
+    ReadOut { chip: c, value }
 }
 
 // 20 to 27: endpoint 0.
-fn control(c: Chip, memory: &[u8; 392], address: u8) -> ReadOut
+fn control(mut c: Chip, memory: &[u8; 392], address: u8) -> ReadOut
     ensures { λ r. ⌜ r ≡ controlRead address c (now (memory .entry)) ⌝ }
 {
-    let z = c.control;
-    let mut n = c;
+    let mut z = c.control;
     match address {
         0x20 => shown(c, z.epc_value()),
         0x22 => {
             let value = z.tx_status();
-            let y = z.tx_cleared();
-            n.control = y;
-            shown(n, value)
+            z = z.tx_cleared();
+            c.control = z;
+            shown(c, value)
         }
         0x23 => shown(c, z.tx_command_value()),
         0x25 => {
             let t = z.take(memory);
-            let y = t.control;
-            n.control = y;
-            shown(n, t.value)
+            z = t.control;
+            c.control = z;
+            shown(c, t.value)
         }
         0x26 => {
             let value = z.rx_status();
-            let y = z.rx_cleared();
-            n.control = y;
-            shown(n, value)
+            z = z.rx_cleared();
+            c.control = z;
+            shown(c, value)
         }
         0x27 => shown(c, z.rx_command_value()),
         _ => shown(c, 0),
@@ -138,7 +124,7 @@ fn endpoint(c: Chip, memory: &[u8; 392], address: u8) -> ReadOut
 }
 
 // EPC, TXD, TXS, TXC of the endpoint that sends from a FIFO.
-fn sender(c: Chip, number: FifoNumber, register: u8) -> ReadOut
+fn sender(mut c: Chip, number: FifoNumber, register: u8) -> ReadOut
     ensures { λ r. ⌜ r ≡ senderRead register number c ⌝ }
 {
     let s = c.sender(number);
@@ -149,8 +135,8 @@ fn sender(c: Chip, number: FifoNumber, register: u8) -> ReadOut
         }
         2 => {
             let value = s.status();
-            let n = c.with_sender(number, s.cleared());
-            shown(n, value)
+            c = c.with_sender(number, s.cleared());
+            shown(c, value)
         }
         3 => shown(c, s.command_value()),
         _ => shown(c, 0),
@@ -158,10 +144,10 @@ fn sender(c: Chip, number: FifoNumber, register: u8) -> ReadOut
 }
 
 // EPC, RXD, RXS, RXC of the endpoint that receives into a FIFO.
-fn receiver(c: Chip, memory: &[u8; 392], number: FifoNumber, register: u8) -> ReadOut
+fn receiver(mut c: Chip, memory: &[u8; 392], number: FifoNumber, register: u8) -> ReadOut
     ensures { λ r. ⌜ r ≡ receiverRead register number c (now (memory .entry)) ⌝ }
 {
-    let s = c.receiver(number);
+    let mut s = c.receiver(number);
     match register {
         0 => {
             let e = s.epc;
@@ -169,14 +155,14 @@ fn receiver(c: Chip, memory: &[u8; 392], number: FifoNumber, register: u8) -> Re
         }
         1 => {
             let t = s.take(memory, number);
-            let r = t.receiver;
-            let n = c.with_receiver(number, r);
-            shown(n, t.value)
+            s = t.receiver;
+            c = c.with_receiver(number, s);
+            shown(c, t.value)
         }
         2 => {
             let value = s.status();
-            let n = c.with_receiver(number, s.cleared());
-            shown(n, value)
+            c = c.with_receiver(number, s.cleared());
+            shown(c, value)
         }
         3 => shown(c, s.command_value()),
         _ => shown(c, 0),

@@ -30,15 +30,14 @@ pub fn awaits(c: Chip, endpoint: Endpoint) -> bool
 }
 
 // A command byte is held, the newest replacing older.
-pub fn held(c: Chip, v: u8) -> Chip
+pub fn held(mut c: Chip, v: u8) -> Chip
     ensures { λ r. ⌜ r ≡ heldByte v c ⌝ }
 {
-    let mut n = c;
     let mut p = c.pending;
     p.holds = true;
     p.held = v;
-    n.pending = p;
-    n
+    c.pending = p;
+    c
 }
 
 // MCNTRL: bit 0 resets everything.
@@ -52,52 +51,47 @@ pub fn mcntrl(c: Chip, memory: &mut [u8; 392], v: u8) -> Chip
     c
 }
 
-pub fn far(c: Chip, v: u8) -> Chip
+pub fn far(mut c: Chip, v: u8) -> Chip
     ensures { λ r. ⌜ r ≡ farWrite v c ⌝ }
 {
-    let mut n = c;
-    n.aden = v / 128 % 2 == 1;
-    n.address = v % 128;
-    n
+    c.aden = v / 128 % 2 == 1;
+    c.address = v % 128;
+    c
 }
 
 // NFSR: any value but 2 leaves the operational state.
-pub fn nfsr(c: Chip, v: u8) -> Chip
+pub fn nfsr(mut c: Chip, v: u8) -> Chip
     ensures { λ r. ⌜ r ≡ nfsrWrite v c ⌝ }
 {
-    let mut n = c;
-    n.nfsr = v % 4;
+    c.nfsr = v % 4;
     if v % 4 == 2 {
-        return n;
+        return c;
     }
-    stop(n)
+    stop(c)
 }
 
 // TX_EN, LAST, RX_EN, what is awaited and held, and the SETUP mark go.
-fn stop(c: Chip) -> Chip
+fn stop(mut c: Chip) -> Chip
     ensures { λ r. ⌜ r ≡ stop c ⌝ }
 {
-    let a = stop_sender(
-        stop_sender(stop_sender(c, FifoNumber(1)), FifoNumber(2)),
-        FifoNumber(3),
-    );
-    let b = stop_receiver(
-        stop_receiver(stop_receiver(a, FifoNumber(1)), FifoNumber(2)),
-        FifoNumber(3),
-    );
-    stop_zero(b)
+    c = stop_sender(c, FifoNumber(1));
+    c = stop_sender(c, FifoNumber(2));
+    c = stop_sender(c, FifoNumber(3));
+    c = stop_receiver(c, FifoNumber(1));
+    c = stop_receiver(c, FifoNumber(2));
+    c = stop_receiver(c, FifoNumber(3));
+    stop_zero(c)
 }
 
-fn stop_zero(c: Chip) -> Chip
+fn stop_zero(mut c: Chip) -> Chip
     ensures { λ r. ⌜ r ≡ stopZero c ⌝ }
 {
-    let mut n = c;
-    let z = c.control;
-    let y = z.stopped();
-    n.control = y;
+    let mut z = c.control;
+    z = z.stopped();
+    c.control = z;
     let p = Pending::idle();
-    n.pending = p;
-    n
+    c.pending = p;
+    c
 }
 
 fn stop_sender(c: Chip, number: FifoNumber) -> Chip
@@ -115,31 +109,16 @@ fn stop_receiver(c: Chip, number: FifoNumber) -> Chip
 }
 
 // MAMSK, or the mask of TXEV, RXEV, NAKEV.
-pub fn mask(c: Chip, which: u8, v: u8) -> Chip
+pub fn mask(mut c: Chip, which: u8, v: u8) -> Chip
     ensures { λ r. ⌜ r ≡ maskWrite which v c ⌝ }
 {
-    let mut n = c;
     let mut m = c.masks;
     match which {
-        0 => {
-            m.main = v;
-            n.masks = m;
-            n
-        }
-        1 => {
-            m.tx = v;
-            n.masks = m;
-            n
-        }
-        2 => {
-            m.rx = v;
-            n.masks = m;
-            n
-        }
-        _ => {
-            m.nak = v;
-            n.masks = m;
-            n
-        }
+        0 => m.main = v,
+        1 => m.tx = v,
+        2 => m.rx = v,
+        _ => m.nak = v,
     }
+    c.masks = m;
+    c
 }

@@ -38,64 +38,60 @@ fn control(c: Chip, memory: &mut [u8; 392], address: u8, v: u8) -> Chip
     }
 }
 
-fn epc0(c: Chip, v: u8) -> Chip
+fn epc0(mut c: Chip, v: u8) -> Chip
     ensures { λ r. ⌜ r ≡ epcWrite0 v c ⌝ }
 {
-    let mut n = c;
-    let z = c.control;
-    let y = z.with_epc(v);
-    n.control = y;
-    n
+    let mut z = c.control;
+    z = z.with_epc(v);
+    c.control = z;
+    c
 }
 
 // TXD0: ignored while endpoint 0 awaits a handshake.
-fn put0(c: Chip, memory: &mut [u8; 392], v: u8) -> Chip
+fn put0(mut c: Chip, memory: &mut [u8; 392], v: u8) -> Chip
     ensures { λ r. ⌜ ControlPut v c (now (memory .entry)) r (now (memory .exit)) ⌝ }
 {
     if settings::awaits(c, Endpoint(0)) {
         return c;
     }
-    let mut n = c;
-    let z = c.control;
-    let y = z.put(memory, v);
-    n.control = y;
-    n
+    let mut z = c.control;
+    z = z.put(memory, v);
+    c.control = z;
+    c
 }
 
 // TXC0: held while endpoint 0 awaits a handshake.
-fn command0(c: Chip, v: u8) -> Chip
+fn command0(mut c: Chip, v: u8) -> Chip
     ensures { λ r. ⌜ r ≡ controlCommand v c ⌝ }
 {
     if settings::awaits(c, Endpoint(0)) {
         return settings::held(c, v);
     }
-    let mut n = c;
-    let z = c.control;
-    let y = z.tx_command(v, settings::operational(c));
-    n.control = y;
-    n
+    let mut z = c.control;
+    z = z.tx_command(v, settings::operational(c));
+    c.control = z;
+    c
 }
 
 // RXC0: its bits at once; its flush is held while endpoint 0 awaits a handshake.
-fn receive0(c: Chip, v: u8) -> Chip
+fn receive0(mut c: Chip, v: u8) -> Chip
     ensures { λ r. ⌜ r ≡ receiveCommand v c ⌝ }
 {
-    let mut n = c;
-    let z = c.control;
+    let mut z = c.control;
     let on = settings::operational(c);
     if settings::awaits(c, Endpoint(0)) {
-        let y = z.rx_bits(v, on);
-        n.control = y;
+        z = z.rx_bits(v, on);
+        c.control = z;
         if v / 8 % 2 == 1 {
             let mut p = c.pending;
             p.flush = true;
-            n.pending = p;
+            c.pending = p;
         }
-        return n;
+        return c;
     }
-    let y = z.rx_command(v, on);
-    n.control = y;
-    n
+    z = z.rx_command(v, on);
+    c.control = z;
+    c
 }
 
 // 28 to 3F: endpoints 1 to 6.
@@ -120,7 +116,10 @@ fn sender(c: Chip, memory: &mut [u8; 392], number: FifoNumber, register: u8, v: 
             s.epc = e;
             c.with_sender(number, s)
         }
-        1 => c.with_sender(number, s.put(memory, number, v)),
+        1 => {
+            s = s.put(memory, number, v);
+            c.with_sender(number, s)
+        }
         3 => command(c, number, v),
         _ => c,
     }
@@ -133,9 +132,9 @@ fn command(c: Chip, number: FifoNumber, v: u8) -> Chip
     if settings::awaits(c, slot::sending(number)) {
         return settings::held(c, v);
     }
-    let s = c.sender(number);
-    let t = s.command(v, settings::operational(c));
-    c.with_sender(number, t)
+    let mut s = c.sender(number);
+    s = s.command(v, settings::operational(c));
+    c.with_sender(number, s)
 }
 
 // EPC and RXC of the endpoint that receives into a FIFO.
@@ -150,8 +149,8 @@ fn receiver(c: Chip, number: FifoNumber, register: u8, v: u8) -> Chip
             c.with_receiver(number, s)
         }
         3 => {
-            let t = s.command(v, settings::operational(c));
-            c.with_receiver(number, t)
+            s = s.command(v, settings::operational(c));
+            c.with_receiver(number, s)
         }
         _ => c,
     }

@@ -13,8 +13,8 @@ all-held-requires c κs = search needs
 enum-told : tie.Need-enum-told
 enum-told c = search needs
 
-marked-in-requires : tie.Need-marked-in-requires
-marked-in-requires c κs = search needs
+nak-requires : tie.Need-nak-requires
+nak-requires c κs = search needs
 
 enum-told-2 : tie.Need-enum-told-2
 enum-told-2 c = search needs
@@ -25,17 +25,17 @@ enum-told-3 c = search needs
 enum-told-4 : tie.Need-enum-told-4
 enum-told-4 c = search needs
 
-awaiting-requires : tie.Need-awaiting-requires
-awaiting-requires c κs = search needs
+data-requires : tie.Need-data-requires
+data-requires c κs = search needs
 
 enum-told-5 : tie.Need-enum-told-5
 enum-told-5 c = search needs
 
-awaiting-requires-2 : tie.Need-awaiting-requires-2
-awaiting-requires-2 c κs = search needs
+data-requires-2 : tie.Need-data-requires-2
+data-requires-2 c κs = search needs
 
 returns : tie.Need-returns
-returns c = rw (c .before .enum-told .given .1, c .marked-in .ensures, c .before .before .before .before .fifo .ensures)
+returns c = rw (c .before .enum-told .given .1, c .nak .ensures, c .before .before .before .before .fifo .ensures)
 
 returns-2 : tie.Need-returns-2
 returns-2 c = rw (c .enum-told2 .given .1)
@@ -44,10 +44,10 @@ returns-3 : tie.Need-returns-3
 returns-3 c = rw (c .enum-told3 .given .1)
 
 returns-4 : tie.Need-returns-4
-returns-4 c = rw (c .before .enum-told4 .given .1, c .awaiting .ensures, c .before .before .before .all-held .ensures, c .before .before .before .before .fifo .ensures)
+returns-4 c = rw (c .before .enum-told4 .given .1, c .data .ensures, c .before .before .before .all-held .ensures, c .before .before .before .before .fifo .ensures)
 
 returns-5 : tie.Need-returns-5
-returns-5 c = rw (c .before .enum-told5 .given .1, c .awaiting2 .ensures, c .before .before .before .all-held .ensures, c .before .before .before .before .fifo .ensures)
+returns-5 c = rw (c .before .enum-told5 .given .1, c .data2 .ensures, c .before .before .before .all-held .ensures, c .before .before .before .before .fifo .ensures)
 
 pub answered-sender-spec : {M : Type 1} → statement M
 answered-sender-spec =
@@ -56,13 +56,13 @@ answered-sender-spec =
     fifo-requires
     all-held-requires
     enum-told
-    marked-in-requires
+    nak-requires
     enum-told-2
     enum-told-3
     enum-told-4
-    awaiting-requires
+    data-requires
     enum-told-5
-    awaiting-requires-2
+    data-requires-2
     returns
     returns-2
     returns-3

@@ -16,8 +16,8 @@ silent-requires c κs = search needs
 enum-told-2 : tie.Need-enum-told-2
 enum-told-2 c = search needs
 
-marked-in-requires : tie.Need-marked-in-requires
-marked-in-requires c κs = search needs
+nak-requires : tie.Need-nak-requires
+nak-requires c κs = search needs
 
 enum-told-3 : tie.Need-enum-told-3
 enum-told-3 c = search needs
@@ -25,29 +25,29 @@ enum-told-3 c = search needs
 enum-told-4 : tie.Need-enum-told-4
 enum-told-4 c = search needs
 
-awaiting-requires : tie.Need-awaiting-requires
-awaiting-requires c κs = search needs
+data-requires : tie.Need-data-requires
+data-requires c κs = search needs
 
 enum-told-5 : tie.Need-enum-told-5
 enum-told-5 c = search needs
 
-awaiting-requires-2 : tie.Need-awaiting-requires-2
-awaiting-requires-2 c κs = search needs
+data-requires-2 : tie.Need-data-requires-2
+data-requires-2 c κs = search needs
 
 returns : tie.Need-returns
 returns c = rw (c .before .enum-told .given .1) (c .silent .ensures)
 
 returns-2 : tie.Need-returns-2
-returns-2 c = rw (c .before .enum-told2 .given .1, c .marked-in .ensures)
+returns-2 c = rw (c .before .enum-told2 .given .1, c .nak .ensures)
 
 returns-3 : tie.Need-returns-3
 returns-3 c = rw (c .enum-told3 .given .1)
 
 returns-4 : tie.Need-returns-4
-returns-4 c = rw (c .before .enum-told4 .given .1, c .awaiting .ensures, c .before .before .before .all-held .ensures)
+returns-4 c = rw (c .before .enum-told4 .given .1, c .data .ensures, c .before .before .before .all-held .ensures)
 
 returns-5 : tie.Need-returns-5
-returns-5 c = rw (c .before .enum-told5 .given .1, c .awaiting2 .ensures, c .before .before .before .all-held .ensures)
+returns-5 c = rw (c .before .enum-told5 .given .1, c .data2 .ensures, c .before .before .before .all-held .ensures)
 
 pub answered-zero-spec : {M : Type 1} → statement M
 answered-zero-spec =
@@ -57,12 +57,12 @@ answered-zero-spec =
     enum-told
     silent-requires
     enum-told-2
-    marked-in-requires
+    nak-requires
     enum-told-3
     enum-told-4
-    awaiting-requires
+    data-requires
     enum-told-5
-    awaiting-requires-2
+    data-requires-2
     returns
     returns-2
     returns-3

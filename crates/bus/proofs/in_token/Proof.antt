@@ -35,9 +35,9 @@ in-token-spec =
     (tie.spec
     in-mask-requires
     winner-requires
+    enum-known-m
     enum-told
     silent-requires
-    enum-known-m
-    in-at-requires
     returns
+    in-at-requires
     returns-2)

@@ -15,7 +15,7 @@ awaiting-requires c κs = search needs
 
 returns : tie.Need-returns
 unfolding outAt pick
-returns c = rw (eq-eqb _ _ (c .before .before .before .if1 .taken), c .awaiting .ensures, c .before .out-token .ensures)
+returns c = rw (eq-eqb _ _ (c .before .before .if1 .taken), c .awaiting .ensures, c .before .out-token .ensures)
 
 awaiting-requires-2 : tie.Need-awaiting-requires-2
 awaiting-requires-2 c κs = search needs

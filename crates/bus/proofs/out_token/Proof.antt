@@ -38,10 +38,10 @@ out-token-spec =
     (tie.spec
     out-mask-requires
     winner-requires
+    enum-known-m
     enum-told
     silent-requires
-    enum-known-m
+    returns
     out-at-requires
     silent-requires-2
-    returns
     returns-2)

@@ -13,8 +13,8 @@ silent-requires c κs = search needs
 enum-told-2 : tie.Need-enum-told-2
 enum-told-2 c = search needs
 
-marked-out-requires : tie.Need-marked-out-requires
-marked-out-requires c κs = search needs
+nak-requires : tie.Need-nak-requires
+nak-requires c κs = search needs
 
 enum-told-3 : tie.Need-enum-told-3
 enum-told-3 c = search needs
@@ -32,7 +32,7 @@ returns : tie.Need-returns
 returns c = rw (c .before .enum-told .given .1) (c .silent .ensures)
 
 returns-2 : tie.Need-returns-2
-returns-2 c = rw (c .before .enum-told2 .given .1, c .marked-out .ensures)
+returns-2 c = rw (c .before .enum-told2 .given .1, c .nak .ensures)
 
 returns-3 : tie.Need-returns-3
 returns-3 c = rw (c .enum-told3 .given .1)
@@ -50,7 +50,7 @@ judged-at-spec =
     enum-told
     silent-requires
     enum-told-2
-    marked-out-requires
+    nak-requires
     enum-told-3
     enum-told-4
     overrun-requires

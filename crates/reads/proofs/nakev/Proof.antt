@@ -8,7 +8,7 @@ nakev-requires : tie.Need-nakev-requires
 nakev-requires c κs = search needs
 
 returns : tie.Need-returns
-returns c = rw (c .before .before .nakev .ensures)
+returns c = rw (c .before .before .before .nakev .ensures)
 
 pub nakev-spec : {M : Type 1} → statement M
 nakev-spec = tie.close (tie.spec nakev-requires returns)

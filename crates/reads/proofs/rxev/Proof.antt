@@ -8,7 +8,7 @@ rxev-requires : tie.Need-rxev-requires
 rxev-requires c κs = search needs
 
 returns : tie.Need-returns
-returns c = rw (c .before .before .before .rxev .ensures)
+returns c = rw (c .before .before .rxev .ensures)
 
 pub rxev-spec : {M : Type 1} → statement M
 rxev-spec = tie.close (tie.spec rxev-requires returns)
