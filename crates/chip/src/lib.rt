@@ -32,18 +32,18 @@ fn refusing(c: Chip, r: Refusal) -> Stepped
 }
 
 // One event, with its payload beside it: 0 to 64 bytes with data, none with another.
-pub fn step(c: Chip, memory: &mut [u8; 392], event: Event, s: &[u8]) -> Stepped
+pub fn step(mut c: Chip, memory: &mut [u8; 392], event: Event, s: &[u8]) -> Stepped
     ensures { λ r. ⌜ Steps event (now (s .entry)) c (now (memory .entry)) r (now (memory .exit)) ⌝ }
 {
     if formed::well_formed(c) {
         if event::in_range(event, s.len()) {
             let o = step::step(c, memory, event, s);
-            let n = o.chip;
+            c = o.chip;
             let a = o.answer;
             return Stepped {
-                chip: n,
+                chip: c,
                 reply: Reply::Answered(a),
-                line: interrupt::line(n),
+                line: interrupt::line(c),
             };
         }
         return refusing(c, Refusal::OutOfRange);

@@ -1,8 +1,10 @@
 // The driver of two bulk pipes: endpoint 1 sends, endpoint 2 receives. Every call goes through the chip's registers.
 // A call on a state that is not well formed is refused with 5 and changes nothing. The definitions that the contracts cite are in specs/.
+ghost use mathlib.Core.Bool.{true};
 ghost use mathlib.Core.Path.{_≡_};
+ghost use Rattle.state.specs.State.{reset};
 ghost use Rattle.driver.specs.Registers.{whole, writtenAll, Leaves};
-ghost use Rattle.driver.specs.Driver.{fresh, startable, started, admission, accepted, offered, answered, sendServed, Calls};
+ghost use Rattle.driver.specs.Driver.{fresh, startable, setUp, started, admission, accepted, offered, answered, sendServed, Calls};
 use event::BusEndpoint;
 use refusal::Refusal;
 use state::Chip;
@@ -44,16 +46,12 @@ pub fn start(memory: &mut [u8; 392], address: u8, send: BusEndpoint, receive: Bu
     ensures { λ r. ⌜ Calls (started address send receive) r (now (memory .exit)) ⌝ }
 {
     *memory = [0u8; 392];
-    let c = Chip::reset();
+    let mut c = Chip::reset();
     let d = fresh();
     if startable(address, send, receive) {
-        let operational = writes::write(c, memory, 0x05, 2);
-        let addressed = writes::write(operational, memory, 0x04, 0x80 + address);
-        let sending = writes::write(addressed, memory, 0x28, 0x10 + send.0);
-        let receiving = writes::write(sending, memory, 0x2C, 0x10 + receive.0);
-        let n = writes::write(receiving, memory, 0x2F, 0x01);
+        c = set_up(c, memory, address, send, receive);
         return Driven {
-            chip: n,
+            chip: c,
             driver: d,
             did: Did::Done,
         };
@@ -63,6 +61,24 @@ pub fn start(memory: &mut [u8; 392], address: u8, send: BusEndpoint, receive: Bu
         driver: d,
         did: Did::Refused(Refusal::OutOfRange),
     }
+}
+
+// On the reset state: operational, the address, the endpoints of the two pipes, and RX_EN for the first packet.
+fn set_up(
+    mut c: Chip,
+    memory: &mut [u8; 392],
+    address: u8,
+    send: BusEndpoint,
+    receive: BusEndpoint,
+) -> Chip
+    requires { ⌜ (startable address send receive ≡ true) × (whole c (now memory) ≡ reset) ⌝ }
+    ensures { λ r. ⌜ Leaves (setUp address send receive) r (now (memory .exit)) ⌝ }
+{
+    c = writes::write(c, memory, 0x05, 2);
+    c = writes::write(c, memory, 0x04, 0x80 + address);
+    c = writes::write(c, memory, 0x28, 0x10 + send.0);
+    c = writes::write(c, memory, 0x2C, 0x10 + receive.0);
+    writes::write(c, memory, 0x2F, 0x01)
 }
 
 // Holds nothing, toggles 0.
@@ -99,15 +115,14 @@ fn startable(address: u8, send: BusEndpoint, receive: BusEndpoint) -> bool
 pub fn offer(c: Chip, d: Driver, memory: &mut [u8; 392], s: &[u8]) -> Driven
     ensures { λ r. ⌜ Calls (offered (now (s .entry)) (whole c (now (memory .entry))) d) r (now (memory .exit)) ⌝ }
 {
-    let a = offer_refusal(c, d, s.len());
-    match a {
-        Admission::Admitted => accept(c, d, memory, s),
-        Admission::Refused(why) => Driven {
+    if let Admission::Refused(why) = offer_refusal(c, d, s.len()) {
+        return Driven {
             chip: c,
             driver: d,
             did: Did::Refused(why),
-        },
+        };
     }
+    accept(c, d, memory, s)
 }
 
 // What refuses an offer of so many bytes, if anything does.
@@ -127,34 +142,29 @@ fn offer_refusal(c: Chip, d: Driver, count: usize) -> Admission
 }
 
 // The bytes, then LAST, TX_EN and the toggle.
-fn accept(c: Chip, d: Driver, memory: &mut [u8; 392], s: &[u8]) -> Driven
+fn accept(mut c: Chip, mut d: Driver, memory: &mut [u8; 392], s: &[u8]) -> Driven
     ensures { λ r. ⌜ Calls (accepted (now (s .entry)) (whole c (now (memory .entry))) d) r (now (memory .exit)) ⌝ }
 {
-    let filled = put_all(c, memory, s);
-    let n = writes::write(filled, memory, 0x2B, 0x03 + 4 * epc::bit(d.sends));
-    let holding = Driver {
-        held: true,
-        sends: d.sends,
-        expects: d.expects,
-    };
+    c = put_all(c, memory, s);
+    c = writes::write(c, memory, 0x2B, 0x03 + 4 * epc::bit(d.sends));
+    d.held = true;
     Driven {
-        chip: n,
-        driver: holding,
+        chip: c,
+        driver: d,
         did: Did::Done,
     }
 }
 
 // Bytes to TXD1, one after another.
-fn put_all(c: Chip, memory: &mut [u8; 392], s: &[u8]) -> Chip
+fn put_all(mut c: Chip, memory: &mut [u8; 392], s: &[u8]) -> Chip
     ensures { λ r. ⌜ Leaves (writtenAll 0x29 (now (s .entry)) (whole c (now (memory .entry)))) r (now (memory .exit)) ⌝ }
 {
-    let mut n = c;
     let mut i = 0usize;
     while i < s.len() {
-        n = writes::write(n, memory, 0x29, s[i]);
+        c = writes::write(c, memory, 0x29, s[i]);
         i += 1;
     }
-    n
+    c
 }
 
 // What became of the packet that is held.
@@ -163,8 +173,7 @@ pub fn send_service(c: Chip, d: Driver, memory: &mut [u8; 392]) -> Driven
 {
     if formed::well_formed(c) {
         let r = reads::read(c, memory, 0x2A);
-        let n = r.chip;
-        return answered(n, d, memory, r.value);
+        return answered(r.chip, d, memory, r.value);
     }
     Driven {
         chip: c,
@@ -174,26 +183,23 @@ pub fn send_service(c: Chip, d: Driver, memory: &mut [u8; 392]) -> Driven
 }
 
 // By TXS: TX_DONE says that the packet went out, ACK_STAT that it was acknowledged.
-fn answered(c: Chip, d: Driver, memory: &mut [u8; 392], status: u8) -> Driven
+fn answered(mut c: Chip, mut d: Driver, memory: &mut [u8; 392], status: u8) -> Driven
     ensures { λ r. ⌜ Calls (answered status (whole c (now (memory .entry))) d) r (now (memory .exit)) ⌝ }
 {
     if d.held {
         if status / 32 % 2 == 1 {
             if status / 64 % 2 == 1 {
-                let free = Driver {
-                    held: false,
-                    sends: !d.sends,
-                    expects: d.expects,
-                };
+                d.held = false;
+                d.sends = !d.sends;
                 return Driven {
                     chip: c,
-                    driver: free,
+                    driver: d,
                     did: Did::Delivered,
                 };
             }
-            let n = writes::write(c, memory, 0x2B, 0x13 + 4 * epc::bit(d.sends));
+            c = writes::write(c, memory, 0x2B, 0x13 + 4 * epc::bit(d.sends));
             return Driven {
-                chip: n,
+                chip: c,
                 driver: d,
                 did: Did::Resent,
             };

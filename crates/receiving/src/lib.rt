@@ -30,8 +30,7 @@ pub fn receive_service(c: Chip, d: Driver, memory: &mut [u8; 392]) -> Received
 {
     if formed::well_formed(c) {
         let r = reads::read(c, memory, 0x2E);
-        let n = r.chip;
-        return judged(n, d, memory, r.value);
+        return judged(r.chip, d, memory, r.value);
     }
     without(c, d, Did::Refused(Refusal::NotWellFormed))
 }
@@ -69,31 +68,26 @@ fn without(c: Chip, d: Driver, did: Did) -> Received
 }
 
 // FLUSH, and RX_EN for the next packet.
-fn flush(c: Chip, d: Driver, memory: &mut [u8; 392], why: Did) -> Received
+fn flush(mut c: Chip, d: Driver, memory: &mut [u8; 392], why: Did) -> Received
     ensures { λ r. ⌜ Receives (flushing why (whole c (now (memory .entry))) d) r (now (memory .exit)) ⌝ }
 {
-    let n = writes::write(c, memory, 0x2F, 0x09);
-    without(n, d, why)
+    c = writes::write(c, memory, 0x2F, 0x09);
+    without(c, d, why)
 }
 
 // All bytes, the toggle flipped, and RX_EN for the next packet.
-fn accept(c: Chip, d: Driver, memory: &mut [u8; 392], count: u8) -> Received
+fn accept(mut c: Chip, mut d: Driver, memory: &mut [u8; 392], count: u8) -> Received
     requires { ⌜ Shows count c ⌝ }
     ensures { λ r. ⌜ Receives (accepting (allTaken count (whole c (now (memory .entry)))) d) r (now (memory .exit)) ⌝ }
 {
     let t = take_all(c, memory, count);
-    let taken = t.chip;
-    let n = writes::write(taken, memory, 0x2F, 0x01);
-    let next = Driver {
-        held: d.held,
-        sends: d.sends,
-        expects: !d.expects,
-    };
+    c = writes::write(t.chip, memory, 0x2F, 0x01);
+    d.expects = !d.expects;
     let packet = t.packet;
     Received {
         driven: Driven {
-            chip: n,
-            driver: next,
+            chip: c,
+            driver: d,
             did: Did::Taken,
         },
         count: t.count,
@@ -102,40 +96,38 @@ fn accept(c: Chip, d: Driver, memory: &mut [u8; 392], count: u8) -> Received
 }
 
 // As many bytes as RXS showed, and again until it shows none.
-fn take_all(c: Chip, memory: &[u8; 392], count: u8) -> Drained
+fn take_all(mut c: Chip, memory: &[u8; 392], count: u8) -> Drained
     requires { ⌜ Shows count c ⌝ }
     ensures { λ r. ⌜ Drains (allTaken count (whole c (now (memory .entry)))) (now (memory .entry)) r ⌝ }
 {
-    let mut n = c;
     let mut packet = [0u8; 64];
     let mut got = 0usize;
     let mut shown = count;
     while 0 < shown {
-        let t = take(n, memory, &mut packet, got, shown);
+        c = take(c, memory, &mut packet, got, shown);
         got += shown as usize;
-        let r = reads::read(t, memory, 0x2E);
-        n = r.chip;
+        let r = reads::read(c, memory, 0x2E);
+        c = r.chip;
         shown = r.value % 16;
     }
     Drained {
-        chip: n,
+        chip: c,
         count: got,
         packet,
     }
 }
 
 // So many bytes from RXD to the packet, from a place on.
-fn take(c: Chip, memory: &[u8; 392], packet: &mut [u8; 64], at: usize, count: u8) -> Chip
+fn take(mut c: Chip, memory: &[u8; 392], packet: &mut [u8; 64], at: usize, count: u8) -> Chip
     requires { ⌜ at + count ≤ 64 ⌝ }
     ensures { λ r. ⌜ Fills (taken count (whole c (now (memory .entry)))) at (now (memory .entry)) (now (packet .entry)) r (now (packet .exit)) ⌝ }
 {
-    let mut n = c;
     let mut i = 0u8;
     while i < count {
-        let r = reads::read(n, memory, 0x2D);
+        let r = reads::read(c, memory, 0x2D);
         packet[at + i as usize] = r.value;
-        n = r.chip;
+        c = r.chip;
         i += 1;
     }
-    n
+    c
 }

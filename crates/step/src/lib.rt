@@ -27,71 +27,77 @@ pub fn step(c: Chip, memory: &mut [u8; 392], event: Event, s: &[u8]) -> Out
 }
 
 // The wait for a handshake ends; awaited data does not come.
-fn quiet(c: Chip, acked: bool) -> Chip
+fn quiet(mut c: Chip, acked: bool) -> Chip
     ensures { λ r. ⌜ r ≡ quiet acked c ⌝ }
 {
-    ends::dropped(ends::ended(c, acked))
+    c = ends::ended(c, acked);
+    ends::dropped(c)
 }
 
-fn read(c: Chip, memory: &[u8; 392], address: u8) -> Out
+fn read(mut c: Chip, memory: &[u8; 392], address: u8) -> Out
     ensures { λ r. ⌜ r ≡ readStep address c (now (memory .entry)) ⌝ }
 {
     let r = reads::read(c, memory, address);
-    let n = r.chip;
+    c = r.chip;
     Out {
-        chip: n,
+        chip: c,
         answer: Answer::Value(r.value),
     }
 }
 
-fn write(c: Chip, memory: &mut [u8; 392], address: u8, v: u8) -> Out
+fn write(mut c: Chip, memory: &mut [u8; 392], address: u8, v: u8) -> Out
     ensures { λ r. ⌜ Gives (writeStep address v c) (bytesOf address v c (now (memory .entry))) r (now (memory .exit)) ⌝ }
 {
-    let n = writes::write(c, memory, address, v);
-    answer::silent(n)
+    c = writes::write(c, memory, address, v);
+    answer::silent(c)
 }
 
-fn in_event(c: Chip, address: u8, endpoint: BusEndpoint) -> Out
+fn in_event(mut c: Chip, address: u8, endpoint: BusEndpoint) -> Out
     ensures { λ r. ⌜ r ≡ inStep address endpoint c ⌝ }
 {
     if settings::operational(c) {
-        return bus::in_token(quiet(c, false), address, endpoint);
+        c = quiet(c, false);
+        return bus::in_token(c, address, endpoint);
     }
     answer::silent(c)
 }
 
-fn out_event(c: Chip, address: u8, endpoint: BusEndpoint) -> Out
+fn out_event(mut c: Chip, address: u8, endpoint: BusEndpoint) -> Out
     ensures { λ r. ⌜ r ≡ outStep address endpoint c ⌝ }
 {
     if settings::operational(c) {
-        return bus::out_token(quiet(c, false), address, endpoint);
+        c = quiet(c, false);
+        return bus::out_token(c, address, endpoint);
     }
     answer::silent(c)
 }
 
-fn setup_event(c: Chip, address: u8, endpoint: BusEndpoint) -> Out
+fn setup_event(mut c: Chip, address: u8, endpoint: BusEndpoint) -> Out
     ensures { λ r. ⌜ r ≡ setupStep address endpoint c ⌝ }
 {
     if settings::operational(c) {
-        return bus::setup_token(quiet(c, false), address, endpoint);
+        c = quiet(c, false);
+        return bus::setup_token(c, address, endpoint);
     }
     answer::silent(c)
 }
 
-fn data_event(c: Chip, memory: &mut [u8; 392], pid: bool, sound: bool, s: &[u8]) -> Out
+fn data_event(mut c: Chip, memory: &mut [u8; 392], pid: bool, sound: bool, s: &[u8]) -> Out
     ensures { λ r. ⌜ Gives (dataStep pid sound (now (s .entry)) c) (dataStepBytes pid sound (now (s .entry)) c (now (memory .entry))) r (now (memory .exit)) ⌝ }
 {
     if settings::operational(c) {
-        return data::data(ends::ended(c, false), memory, pid, sound, s);
+        c = ends::ended(c, false);
+        return data::data(c, memory, pid, sound, s);
     }
     answer::silent(c)
 }
 
-fn end_event(c: Chip, acked: bool) -> Out
+fn end_event(mut c: Chip, acked: bool) -> Out
     ensures { λ r. ⌜ r ≡ endStep acked c ⌝ }
 {
     if settings::operational(c) {
-        return answer::silent(quiet(c, acked));
+        c = quiet(c, acked);
+        return answer::silent(c);
     }
     answer::silent(c)
 }

@@ -9,27 +9,27 @@ use Rattle.driver.proofs.offer.Tie as tie
 offer-refusal-requires : tie.Need-offer-refusal-requires
 offer-refusal-requires c κs = search needs
 
+enum-known-why : tie.Need-enum-known-why
+enum-known-why c = search needs
+
+returns : tie.Need-returns
+unfolding offered offeredBy
+returns c =
+    rw (← c .before .before .before .offer-refusal .ensures, c .before .why .given .1)
+    (record { chip = refl; driver = refl; did = refl; bytes = refl })
+
 enum-told : tie.Need-enum-told
 enum-told c = search needs
 
 accept-requires : tie.Need-accept-requires
 accept-requires c κs = search needs
 
-enum-known-a : tie.Need-enum-known-a
-enum-known-a c = search needs
-
-returns : tie.Need-returns
-unfolding offered offeredBy
-returns c =
-    rw (← c .before .before .before .before .offer-refusal .ensures, c .before .before .enum-told .given .1) (c .accept .ensures)
-
 returns-2 : tie.Need-returns-2
 unfolding offered offeredBy
 returns-2 c =
-    rw (← c .before .before .before .offer-refusal .ensures, c .before .a .given .1)
-    (record { chip = refl; driver = refl; did = refl; bytes = refl })
+    rw (← c .before .before .before .before .offer-refusal .ensures, c .before .before .enum-told .given .1) (c .accept .ensures)
 
 pub offer-spec : {M : Type 1} → statement M
 offer-spec =
     tie.close
-    (tie.spec offer-refusal-requires enum-told accept-requires enum-known-a returns returns-2)
+    (tie.spec offer-refusal-requires enum-known-why returns enum-told accept-requires returns-2)

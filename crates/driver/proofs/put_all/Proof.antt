@@ -13,11 +13,11 @@ use Rattle.driver.proofs.put_all.Statement.{statement}
 use Rattle.driver.proofs.put_all.Tie as tie
 
 abbrev Inv-loop : tie.InvT-loop
-Inv-loop memory₀ s n₀ i₀ memory n i =
-    (i ≤ length s) × (writtenAll 0x29 (drop i s) (whole n memory) ≡ writtenAll 0x29 s (whole n₀ memory₀))
+Inv-loop c₀ memory₀ s i₀ c memory i =
+    (i ≤ length s) × (writtenAll 0x29 (drop i s) (whole c memory) ≡ writtenAll 0x29 s (whole c₀ memory₀))
 
 abbrev μ-loop : tie.MeasureT-loop
-μ-loop memory₀ s n₀ i₀ memory n i = length s - i
+μ-loop c₀ memory₀ s i₀ c memory i = length s - i
 
 loop-holds : tie.Need-loop-holds Inv-loop μ-loop
 loop-holds c = (omega arith, refl)

@@ -24,7 +24,7 @@ answered-requires c κs = search needs
 returns : tie.Need-returns
 unfolding sendServed pick
 returns c =
-    let r : _ = c .before .before .before in
+    let r : _ = c .before .before in
     let b : _ = r .before .before in
     let a : _ = b .before .before .args in
     let then : ℕ → Model → Type 0 = λ v m. Calls (answered v m (a .d)) (c .answered .result) (c .answered .last .1 .1 .0) in

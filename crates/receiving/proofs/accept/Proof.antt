@@ -17,7 +17,7 @@ write-requires c κs = search needs
 returns : tie.Need-returns
 unfolding accepting
 returns c =
-    let t : _ = c .before .before .before .before .before .take-all .ensures in
+    let t : _ = c .before .before .before .before .take-all .ensures in
     let l : _ = parted (wrote (c .before .before .write .ensures) ∙ ap (written 0x2F 0x01) (joined (t .left))) in
     record {
       driven = record { chip = l .chip; driver = refl; did = refl; bytes = l .bytes };

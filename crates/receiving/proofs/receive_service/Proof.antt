@@ -21,14 +21,14 @@ read-requires c κs = search needs
 
 judged-requires : tie.Need-judged-requires
 judged-requires c κs =
-    let b : _ = c .before .before .before .before in
+    let b : _ = c .before .before .before in
     let a : _ = b .before .before .args in
-    formed-shows (whole (a .c) (now (a .memory))) (sym (b .before .well-formed .ensures) ∙ b .if1 .taken) (c .before .before .read .ensures)
+    formed-shows (whole (a .c) (now (a .memory))) (sym (b .before .well-formed .ensures) ∙ b .if1 .taken) (c .before .read .ensures)
 
 returns : tie.Need-returns
 unfolding receiveServed pick
 returns c =
-    let r : _ = c .before .before .before in
+    let r : _ = c .before .before in
     let b : _ = r .before .before in
     let a : _ = b .before .before .args in
     let then : ℕ → Model → Type 0 = λ v m. Receives (judged v m (a .d)) (c .judged .result) (c .judged .last .1 .1 .0) in

@@ -28,13 +28,13 @@ module _ (k at : ℕ) (p : List ℕ) (m : Model) (r : ReadOut) (e : r ≡ readOf
   turn-model = rw e
 
 abbrev Inv-loop : tie.InvT-loop
-Inv-loop memory packet₀ at count n₀ i₀ packet n i =
+Inv-loop c₀ memory packet₀ at count i₀ c packet i =
     (i ≤ count)
-    × (sets packet (at + i) (taken (count - i) (whole n memory) .bytes) ≡ sets packet₀ at (taken count (whole n₀ memory) .bytes))
-    × (taken (count - i) (whole n memory) .model ≡ taken count (whole n₀ memory) .model)
+    × (sets packet (at + i) (taken (count - i) (whole c memory) .bytes) ≡ sets packet₀ at (taken count (whole c₀ memory) .bytes))
+    × (taken (count - i) (whole c memory) .model ≡ taken count (whole c₀ memory) .model)
 
 abbrev μ-loop : tie.MeasureT-loop
-μ-loop memory packet₀ at count n₀ i₀ packet n i = count - i
+μ-loop c₀ memory packet₀ at count i₀ c packet i = count - i
 
 loop-holds : tie.Need-loop-holds Inv-loop μ-loop
 loop-holds c =
@@ -64,7 +64,7 @@ loop-again : tie.Need-loop-again Inv-loop μ-loop
 loop-again c =
     let a : _ = c .before .before .before .before .args in
     let l : _ = c .before .before .before .loop in
-    let m : Model = whole (l .n) (now (a .memory)) in
+    let m : Model = whole (l .c) (now (a .memory)) in
     let e : a .count - l .i ≡ suc (a .count - (l .i + 1)) = omega arith in
     let f : a .at + (l .i + 1) ≡ suc (a .at + l .i) = omega arith in (
       omega arith,

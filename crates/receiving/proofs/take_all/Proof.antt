@@ -11,11 +11,11 @@ use Rattle.receiving.proofs.take_all.Statement.{statement}
 use Rattle.receiving.proofs.take_all.Tie as tie
 
 abbrev Inv-loop : tie.InvT-loop
-Inv-loop memory count n₀ packet₀ got₀ shown₀ n packet got shown =
-    Rest (allTaken count (whole n₀ memory)) (whole n memory) packet got shown
+Inv-loop c₀ memory count packet₀ got₀ shown₀ c packet got shown =
+    Rest (allTaken count (whole c₀ memory)) (whole c memory) packet got shown
 
 abbrev μ-loop : tie.MeasureT-loop
-μ-loop memory count n₀ packet₀ got₀ shown₀ n packet got shown = received n
+μ-loop c₀ memory count packet₀ got₀ shown₀ c packet got shown = received c
 
 loop-holds : tie.Need-loop-holds Inv-loop μ-loop
 loop-holds c = all-left _ _ (c .pre)
