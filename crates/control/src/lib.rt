@@ -63,12 +63,10 @@ impl Control {
     pub fn well_formed(self, operational: bool) -> bool
         ensures { λ r. ⌜ r ≡ wellFormed operational self ⌝ }
     {
-        let f = self.fifo;
-        let n = ring::level(f.read, f.write);
-        if Fifo0::SIZE < n {
+        if Fifo0::SIZE < ring::level(self.fifo.read, self.fifo.write) {
             return false;
         }
-        if unmarked_empty(f) {
+        if unmarked_empty(self.fifo) {
             if operational {
                 return true;
             }

@@ -27,8 +27,7 @@ impl Control {
     pub fn tx_status(self) -> u8
         ensures { λ r. ⌜ r ≡ txStatus self ⌝ }
     {
-        let f = self.fifo;
-        let n = ring::free(Fifo0::SIZE, f.read, f.write);
+        let n = ring::free(Fifo0::SIZE, self.fifo.read, self.fifo.write);
         let flags = 64 * epc::bit(self.ack) + 32 * epc::bit(self.done);
         if n <= 31 {
             return flags + n;
@@ -49,8 +48,7 @@ impl Control {
     pub fn rx_status(self) -> u8
         ensures { λ r. ⌜ r ≡ rxStatus self ⌝ }
     {
-        let f = self.fifo;
-        let n = f.rcount();
+        let n = self.fifo.rcount();
         let flags = 64 * epc::bit(self.setup)
             + 32 * epc::bit(self.toggle)
             + 16 * epc::bit(self.last);
@@ -88,9 +86,8 @@ impl Control {
     pub fn flushed(mut self) -> Control
         ensures { λ r. ⌜ r ≡ flushed self ⌝ }
     {
-        let f = self.fifo;
-        let g = f.flush();
-        self.fifo = g;
+        let f = self.fifo.flush();
+        self.fifo = f;
         self
     }
 
@@ -105,18 +102,17 @@ impl Control {
     }
 
     // A TXC0 byte: flush, then the bits. Outside the operational state TX_EN is stored as 0.
-    pub fn tx_command(self, v: u8, operational: bool) -> Control
+    pub fn tx_command(mut self, v: u8, operational: bool) -> Control
         ensures { λ r. ⌜ r ≡ txCommand operational v self ⌝ }
     {
-        let mut s = self.flushed_by(v);
-        s.ignin = v / 16 % 2 == 1;
-        s.txtoggle = v / 4 % 2 == 1;
-        s.sends = false;
+        self = self.flushed_by(v);
+        self.ignin = v / 16 % 2 == 1;
+        self.txtoggle = v / 4 % 2 == 1;
+        self.sends = false;
         if operational {
-            s.sends = v % 2 == 1;
-            return s;
+            self.sends = v % 2 == 1;
         }
-        s
+        self
     }
 
     // The bits of an RXC0 byte; its flush may have to wait. Outside the operational state RX_EN is stored as 0.
@@ -128,7 +124,6 @@ impl Control {
         self.receives = false;
         if operational {
             self.receives = v % 2 == 1;
-            return self;
         }
         self
     }
@@ -145,9 +140,8 @@ impl Control {
     pub fn put(mut self, memory: &mut [u8; 392], b: u8) -> Control
         ensures { λ r. ⌜ PutData self b (now (memory .entry)) r (now (memory .exit)) ⌝ }
     {
-        let f = self.fifo;
-        let g = f.put(memory, b);
-        self.fifo = g;
+        let f = self.fifo.put(memory, b);
+        self.fifo = f;
         self
     }
 
@@ -155,10 +149,9 @@ impl Control {
     pub fn take(mut self, memory: &[u8; 392]) -> TakenByte0
         ensures { λ r. ⌜ r ≡ takeData self (now (memory .entry)) ⌝ }
     {
-        let f = self.fifo;
-        let t = f.take(memory);
-        let g = t.fifo;
-        self.fifo = g;
+        let t = self.fifo.take(memory);
+        let f = t.fifo;
+        self.fifo = f;
         TakenByte0 {
             control: self,
             value: t.value,

@@ -2,6 +2,8 @@
 // What is answered and the state after it are two functions, and the second goes by the first. The definitions that the contracts cite are
 // in specs/.
 ghost use mathlib.Core.Path.{_≡_};
+ghost use mathlib.Core.Bool.{true, false};
+ghost use Rattle.control.specs.State.{withSends, withTxFlags};
 ghost use Rattle.controlbus.specs.Bus.{disabled, answerIn, sent, handshake, judgeOut, Received, Stored, outToken};
 use control::Control;
 pub use setup::judge_setup;
@@ -28,8 +30,7 @@ fn disabled(c: Control) -> bool
         if c.receives {
             return true;
         }
-        let f = c.fifo;
-        return f.rcount() != 0;
+        return c.fifo.rcount() != 0;
     }
     true
 }
@@ -62,12 +63,7 @@ pub fn sent(mut c: Control) -> Control
     match answer {
         Sent0::Silence => c,
         Sent0::Nak => c,
-        Sent0::Stall => {
-            c.sends = false;
-            c.ack = false;
-            c.done = true;
-            c
-        }
+        Sent0::Stall => stalled(c),
         Sent0::Data0 => {
             c.def = false;
             c
@@ -79,14 +75,23 @@ pub fn sent(mut c: Control) -> Control
     }
 }
 
+// The state after STALL is answered to an IN token.
+fn stalled(mut c: Control) -> Control
+    ensures { λ r. ⌜ r ≡ withSends false (withTxFlags false true c) ⌝ }
+{
+    c.sends = false;
+    c.ack = false;
+    c.done = true;
+    c
+}
+
 // The end of the wait for a handshake: whether it was an ACK.
 pub fn handshake(mut c: Control, acked: bool) -> Control
     ensures { λ r. ⌜ r ≡ handshake acked c ⌝ }
 {
     if acked {
-        let f = c.fifo;
-        let g = f.spend();
-        c.fifo = g;
+        let f = c.fifo.spend();
+        c.fifo = f;
         c.sends = false;
         c.ack = true;
         c.done = true;
@@ -106,8 +111,7 @@ pub fn judge(c: Control, sound: bool, count: usize) -> Judged
         if c.stall {
             return Judged::Stall.heard(sound);
         }
-        let f = c.fifo;
-        if f.fits(count) {
+        if c.fifo.fits(count) {
             return Judged::Ack.heard(sound);
         }
         return Judged::Overrun.heard(sound);
@@ -141,9 +145,8 @@ fn stored(mut c: Control, memory: &mut [u8; 392], pid: bool, s: &[u8]) -> Contro
     if s.len() == 0 {
         return c;
     }
-    let f = c.fifo;
-    let g = f.fill(memory, s);
-    c.fifo = g;
+    let f = c.fifo.fill(memory, s);
+    c.fifo = f;
     c.last = true;
     c.toggle = pid;
     c.setup = false;

@@ -30,8 +30,7 @@ pub fn judge_setup(c: Control, pid: bool, sound: bool, count: usize) -> Judged
     if c.mark {
         return Judged::Ack;
     }
-    let f = c.fifo;
-    if f.rcount() != 0 {
+    if c.fifo.rcount() != 0 {
         return Judged::Silence;
     }
     Judged::Ack
@@ -61,10 +60,9 @@ pub fn received_setup(
 fn taken(mut c: Control, memory: &mut [u8; 392], s: &[u8]) -> Control
     ensures { λ r. ⌜ TakenSetup c (now (s .entry)) (now (memory .entry)) r (now (memory .exit)) ⌝ }
 {
-    let f = c.fifo;
-    let e = f.spend();
-    let g = e.fill(memory, s);
-    c.fifo = g;
+    let mut f = c.fifo.spend();
+    f = f.fill(memory, s);
+    c.fifo = f;
     c.last = true;
     c.setup = true;
     c.toggle = false;

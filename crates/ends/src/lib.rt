@@ -11,13 +11,12 @@ use state::Wait;
 use window::FifoNumber;
 
 // Nothing awaited, nothing held.
-pub fn idled(c: Chip) -> Chip
+pub fn idled(mut c: Chip) -> Chip
     ensures { λ r. ⌜ r ≡ idled c ⌝ }
 {
-    let mut n = c;
     let p = Pending::idle();
-    n.pending = p;
-    n
+    c.pending = p;
+    c
 }
 
 // The end of a wait for a handshake: whether it was an ACK.
@@ -44,17 +43,14 @@ fn ended_at(c: Chip, e: Endpoint, acked: bool) -> Chip
 }
 
 // Endpoint 0: the wait's flags, then a held flush, then the held byte.
-fn ended_zero(c: Chip, acked: bool) -> Chip
+fn ended_zero(mut c: Chip, acked: bool) -> Chip
     ensures { λ r. ⌜ r ≡ endedZero acked c ⌝ }
 {
-    let p = c.pending;
-    let z = c.control;
-    let y = controlbus::handshake(z, acked);
-    let x = done_flush(y, p.flush);
-    let w = done_byte(x, p.holds, p.held);
-    let mut n = c;
-    n.control = w;
-    idled(n)
+    let mut z = controlbus::handshake(c.control, acked);
+    z = done_flush(z, c.pending.flush);
+    z = done_byte(z, c.pending.holds, c.pending.held);
+    c.control = z;
+    idled(c)
 }
 
 fn done_flush(z: Control, flush: bool) -> Control
@@ -79,11 +75,10 @@ fn done_byte(z: Control, holds: bool, v: u8) -> Control
 fn ended_sender(c: Chip, number: FifoNumber, acked: bool) -> Chip
     ensures { λ r. ⌜ r ≡ endedSender number acked c ⌝ }
 {
-    let p = c.pending;
-    let s = c.sender(number);
-    let t = s.handshake(acked);
-    let u = sender_byte(t, p.holds, p.held);
-    idled(c.with_sender(number, u))
+    let mut s = c.sender(number);
+    s = s.handshake(acked);
+    s = sender_byte(s, c.pending.holds, c.pending.held);
+    idled(c.with_sender(number, s))
 }
 
 fn sender_byte(s: Sender, holds: bool, v: u8) -> Sender
@@ -109,12 +104,10 @@ pub fn dropped(c: Chip) -> Chip
     }
 }
 
-fn dropped_setup(c: Chip) -> Chip
+fn dropped_setup(mut c: Chip) -> Chip
     ensures { λ r. ⌜ r ≡ droppedSetup c ⌝ }
 {
-    let mut n = c;
-    let z = c.control;
-    let y = controlbus::setup_dropped(z);
-    n.control = y;
-    idled(n)
+    let z = controlbus::setup_dropped(c.control);
+    c.control = z;
+    idled(c)
 }

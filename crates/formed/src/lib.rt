@@ -12,13 +12,11 @@ pub fn well_formed(c: Chip) -> bool
     ensures { λ r. ⌜ r ≡ wellFormed c ⌝ }
 {
     let o = settings::operational(c);
-    let z = c.control;
-    let p = c.pending;
-    if z.well_formed(o) {
+    if c.control.well_formed(o) {
         if senders(c, o) {
             if receivers(c, o) {
                 if registers(c) {
-                    return pending(p, o);
+                    return pending(c.pending, o);
                 }
                 return false;
             }
@@ -32,12 +30,12 @@ pub fn well_formed(c: Chip) -> bool
 fn senders(c: Chip, operational: bool) -> bool
     ensures { λ r. ⌜ r ≡ sendersWell operational c ⌝ }
 {
-    let a = c.sender(FifoNumber(1));
-    let b = c.sender(FifoNumber(2));
-    let d = c.sender(FifoNumber(3));
-    if a.well_formed(operational) {
-        if b.well_formed(operational) {
-            return d.well_formed(operational);
+    let mut s = c.sender(FifoNumber(1));
+    if s.well_formed(operational) {
+        s = c.sender(FifoNumber(2));
+        if s.well_formed(operational) {
+            s = c.sender(FifoNumber(3));
+            return s.well_formed(operational);
         }
         return false;
     }
@@ -47,12 +45,12 @@ fn senders(c: Chip, operational: bool) -> bool
 fn receivers(c: Chip, operational: bool) -> bool
     ensures { λ r. ⌜ r ≡ receiversWell operational c ⌝ }
 {
-    let a = c.receiver(FifoNumber(1));
-    let b = c.receiver(FifoNumber(2));
-    let d = c.receiver(FifoNumber(3));
-    if a.well_formed(operational) {
-        if b.well_formed(operational) {
-            return d.well_formed(operational);
+    let mut r = c.receiver(FifoNumber(1));
+    if r.well_formed(operational) {
+        r = c.receiver(FifoNumber(2));
+        if r.well_formed(operational) {
+            r = c.receiver(FifoNumber(3));
+            return r.well_formed(operational);
         }
         return false;
     }

@@ -2,7 +2,8 @@
 // an OUT token. Bytes stand in the lent memory. The definitions that the contracts cite are in specs/.
 ghost use mathlib.Core.Path.{_≡_};
 ghost use Rattle.receiver.specs.Receiver.{resetReceiver, statusOf, cleared, commandValue, flushed, command, takeByte};
-ghost use Rattle.receiver.specs.Receiver.{judged, ReceivedData, stopped, wellFormed};
+ghost use Rattle.receiver.specs.Receiver.{judged, good, damaged, ReceivedData, stopped, wellFormed};
+ghost use Rattle.choice.specs.Choice.{pick};
 use epc::Epc;
 use rxfifo::RxFifo;
 use verdict::Judged;
@@ -52,8 +53,7 @@ impl Receiver {
     pub fn status(self) -> u8
         ensures { λ r. ⌜ r ≡ statusOf self ⌝ }
     {
-        let f = self.fifo;
-        let n = ring::level(f.read, f.write);
+        let n = ring::level(self.fifo.read, self.fifo.write);
         let flags = 128 * epc::bit(self.err)
             + 64 * epc::bit(self.setup)
             + 32 * epc::bit(self.toggle)
@@ -83,18 +83,17 @@ impl Receiver {
     }
 
     // An RXC byte: flush, then the bits. Outside the operational state RX_EN is stored as 0.
-    pub fn command(self, v: u8, operational: bool) -> Receiver
+    pub fn command(mut self, v: u8, operational: bool) -> Receiver
         ensures { λ r. ⌜ r ≡ command operational v self ⌝ }
     {
-        let mut s = self.flushed(v);
-        s.middle = v / 32 % 4;
-        s.ignore = v / 4 % 2 == 1;
+        self = self.flushed(v);
+        self.middle = v / 32 % 4;
+        self.ignore = v / 4 % 2 == 1;
+        self.enabled = false;
         if operational {
-            s.enabled = v % 2 == 1;
-            return s;
+            self.enabled = v % 2 == 1;
         }
-        s.enabled = false;
-        s
+        self
     }
 
     // FLUSH of an RXC byte.
@@ -102,10 +101,8 @@ impl Receiver {
         ensures { λ r. ⌜ r ≡ flushed v self ⌝ }
     {
         if v / 8 % 2 == 1 {
-            let f = self.fifo;
-            let g = f.flush();
-            self.fifo = g;
-            return self;
+            let f = self.fifo.flush();
+            self.fifo = f;
         }
         self
     }
@@ -114,10 +111,9 @@ impl Receiver {
     pub fn take(mut self, memory: &[u8; 392], number: FifoNumber) -> TakenByte
         ensures { λ r. ⌜ r ≡ takeByte number self (now (memory .entry)) ⌝ }
     {
-        let f = self.fifo;
-        let t = f.take(memory, number);
-        let g = t.fifo;
-        self.fifo = g;
+        let t = self.fifo.take(memory, number);
+        let f = t.fifo;
+        self.fifo = f;
         TakenByte {
             receiver: self,
             value: t.value,
@@ -129,14 +125,12 @@ impl Receiver {
     pub fn judge(self, sound: bool, count: usize) -> Judged
         ensures { λ r. ⌜ r ≡ judged sound count self ⌝ }
     {
-        let epc = self.epc;
-        let f = self.fifo;
         if sound {
             if self.enabled {
-                if epc.stall {
+                if self.epc.stall {
                     return Judged::Stall;
                 }
-                if f.fits(count) {
+                if self.fifo.fits(count) {
                     return Judged::Ack;
                 }
                 return Judged::Overrun;
@@ -157,32 +151,39 @@ impl Receiver {
     ) -> Receiver
         ensures { λ r. ⌜ ReceivedData number pid sound (now (s .entry)) self (now (memory .entry)) r (now (memory .exit)) ⌝ }
     {
-        let epc = self.epc;
-        let f = self.fifo;
         if self.enabled {
-            if epc.stall {
+            if self.epc.stall {
                 if sound {
                     self.enabled = false;
                 }
                 return self;
             }
-            if f.fits(s.len()) {
-                self.enabled = false;
+            if self.fifo.fits(s.len()) {
                 if sound {
                     if s.len() == 0 {
+                        self.enabled = false;
                         return self;
                     }
-                    let g = f.fill(memory, number, s);
-                    self.fifo = g;
-                    self.toggle = pid;
-                    self.last = true;
-                    return self;
                 }
-                let g = f.fill(memory, number, s);
-                self.fifo = g;
-                self.err = true;
+                let f = self.fifo.fill(memory, number, s);
+                self.fifo = f;
+                return self.noted(pid, sound);
             }
         }
+        self
+    }
+
+    // The flags after data that is stored.
+    fn noted(mut self, pid: bool, sound: bool) -> Receiver
+        ensures { λ r. ⌜ r ≡ pick sound (good pid self) (damaged self) ⌝ }
+    {
+        self.enabled = false;
+        if sound {
+            self.toggle = pid;
+            self.last = true;
+            return self;
+        }
+        self.err = true;
         self
     }
 
@@ -198,15 +199,13 @@ impl Receiver {
     pub fn well_formed(self, operational: bool) -> bool
         ensures { λ r. ⌜ r ≡ wellFormed operational self ⌝ }
     {
-        let f = self.fifo;
-        let epc = self.epc;
-        if RxFifo::SIZE < ring::level(f.read, f.write) {
+        if RxFifo::SIZE < ring::level(self.fifo.read, self.fifo.write) {
             return false;
         }
         if 4 <= self.middle {
             return false;
         }
-        if 16 <= epc.number.0 {
+        if 16 <= self.epc.number.0 {
             return false;
         }
         if operational {

@@ -1,6 +1,11 @@
 // An endpoint that sends, 1, 3 or 5: its FIFO's counters, EPC, TXS and TXC, and what they do at a register access, at an IN token and
 // at the end of the wait for a handshake. Bytes stand in the lent memory. The definitions that the contracts cite are in specs/.
+ghost use Prim.Native.Nat.{_/_};
 ghost use mathlib.Core.Path.{_≡_};
+ghost use mathlib.Core.Bool.{_&&_, true, false};
+ghost use Rattle.epc.specs.Bits.{has, odd};
+ghost use Rattle.txfifo.specs.Transmit.{markTx};
+ghost use Rattle.sender.specs.Sender.{withBits, withFifo, withFlags};
 ghost use Rattle.sender.specs.Sender.{resetSender, statusOf, cleared, commandValue, command, moved, marked};
 ghost use Rattle.sender.specs.Sender.{PutData, answerIn, sent, handshake, stopped, near, wellFormed};
 use epc::Epc;
@@ -52,8 +57,7 @@ impl Sender {
     pub fn status(self) -> u8
         ensures { λ r. ⌜ r ≡ statusOf self ⌝ }
     {
-        let f = self.fifo;
-        let n = ring::free(TxFifo::SIZE, f.read, f.write);
+        let n = ring::free(TxFifo::SIZE, self.fifo.read, self.fifo.write);
         let flags = 128 * epc::bit(self.urun) + 64 * epc::bit(self.ack) + 32 * epc::bit(self.done);
         if n <= 31 {
             return flags + n;
@@ -83,35 +87,44 @@ impl Sender {
 
     // A TXC byte: flush, else refill; then the bits; LAST saves the read pointer. Outside the operational state LAST and TX_EN are stored
     // as 0, and LAST moves nothing.
-    pub fn command(self, v: u8, operational: bool) -> Sender
+    pub fn command(mut self, v: u8, operational: bool) -> Sender
         ensures { λ r. ⌜ r ≡ command operational v self ⌝ }
     {
-        let mut s = self.moved(v);
-        s.high = v / 32;
-        s.toggle = v / 4 % 2 == 1;
-        s.last = false;
-        s.enabled = false;
+        self = self.moved(v);
+        self = self.stored(v, operational);
         if operational {
-            s.enabled = v % 2 == 1;
-            return s.marked(v);
+            return self.marked(v);
         }
-        s
+        self
+    }
+
+    // The bits of a TXC byte; LAST is stored with its mark.
+    fn stored(mut self, v: u8, operational: bool) -> Sender
+        ensures { λ r. ⌜ r ≡ withBits (v / 32) (has 4 v) false (operational && odd v) self ⌝ }
+    {
+        self.high = v / 32;
+        self.toggle = v / 4 % 2 == 1;
+        self.last = false;
+        self.enabled = false;
+        if operational {
+            self.enabled = v % 2 == 1;
+        }
+        self
     }
 
     // The FIFO's part of a TXC byte before its bits.
     fn moved(mut self, v: u8) -> Sender
         ensures { λ r. ⌜ r ≡ moved v self ⌝ }
     {
-        let f = self.fifo;
+        let mut f = self.fifo;
         if v / 8 % 2 == 1 {
-            let g = f.flush();
-            self.fifo = g;
+            f = f.flush();
+            self.fifo = f;
             return self;
         }
         if v / 16 % 2 == 1 {
-            let g = f.refill();
-            self.fifo = g;
-            return self;
+            f = f.refill();
+            self.fifo = f;
         }
         self
     }
@@ -121,9 +134,8 @@ impl Sender {
         ensures { λ r. ⌜ r ≡ marked v self ⌝ }
     {
         if v / 2 % 2 == 1 {
-            let f = self.fifo;
-            let g = f.mark();
-            self.fifo = g;
+            let f = self.fifo.mark();
+            self.fifo = f;
             self.last = true;
         }
         self
@@ -133,9 +145,8 @@ impl Sender {
     pub fn put(mut self, memory: &mut [u8; 392], number: FifoNumber, b: u8) -> Sender
         ensures { λ r. ⌜ PutData number self b (now (memory .entry)) r (now (memory .exit)) ⌝ }
     {
-        let f = self.fifo;
-        let g = f.put(memory, number, b);
-        self.fifo = g;
+        let f = self.fifo.put(memory, number, b);
+        self.fifo = f;
         self
     }
 
@@ -143,9 +154,8 @@ impl Sender {
     pub fn answer(self) -> Sent
         ensures { λ r. ⌜ r ≡ answerIn self ⌝ }
     {
-        let epc = self.epc;
         if self.enabled {
-            if epc.stall {
+            if self.epc.stall {
                 return Sent::Stall;
             }
             if self.last {
@@ -163,25 +173,31 @@ impl Sender {
     pub fn sent(mut self) -> Sender
         ensures { λ r. ⌜ r ≡ sent self ⌝ }
     {
-        let epc = self.epc;
         if self.enabled {
             self.enabled = false;
-            if epc.stall {
+            if self.epc.stall {
                 self.ack = false;
                 self.done = true;
                 return self;
             }
-            let f = self.fifo;
-            let g = f.spend();
-            self.fifo = g;
+            let f = self.fifo.spend();
+            self.fifo = f;
             if self.last {
                 self.last = false;
                 return self;
             }
-            let h = g.mark();
-            self.fifo = h;
-            self.urun = true;
+            return self.broken();
         }
+        self
+    }
+
+    // A broken packet, its bytes spent.
+    fn broken(mut self) -> Sender
+        ensures { λ r. ⌜ r ≡ withFlags true (self .ack) (self .done) (withFifo (markTx (self .fifo)) self) ⌝ }
+    {
+        let kept = self.fifo.mark();
+        self.fifo = kept;
+        self.urun = true;
         self
     }
 
@@ -207,8 +223,7 @@ impl Sender {
     fn near(self) -> bool
         ensures { λ r. ⌜ r ≡ near self ⌝ }
     {
-        let f = self.fifo;
-        let n = ring::level(f.saved, f.read);
+        let n = ring::level(self.fifo.saved, self.fifo.read);
         if 64 < n {
             return false;
         }
@@ -222,9 +237,7 @@ impl Sender {
     pub fn well_formed(self, operational: bool) -> bool
         ensures { λ r. ⌜ r ≡ wellFormed operational self ⌝ }
     {
-        let f = self.fifo;
-        let epc = self.epc;
-        if TxFifo::SIZE < ring::level(f.read, f.write) {
+        if TxFifo::SIZE < ring::level(self.fifo.read, self.fifo.write) {
             return false;
         }
         if !self.near() {
@@ -233,7 +246,7 @@ impl Sender {
         if 8 <= self.high {
             return false;
         }
-        if 16 <= epc.number.0 {
+        if 16 <= self.epc.number.0 {
             return false;
         }
         if operational {

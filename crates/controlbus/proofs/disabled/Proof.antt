@@ -14,7 +14,7 @@ rcount-requires c κs = search needs
 
 returns-2 : tie.Need-returns-2
 unfolding disabled
-returns-2 c = rw (c .before .before .before .if1 .taken, c .before .before .if2 .left, c .rcount .ensures)
+returns-2 c = rw (c .before .before .if1 .taken, c .before .if2 .left, c .rcount .ensures)
 
 returns-3 : tie.Need-returns-3
 unfolding disabled

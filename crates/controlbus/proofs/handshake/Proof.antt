@@ -11,7 +11,7 @@ spend-requires c κs = search needs
 
 returns : tie.Need-returns
 unfolding handshake pick
-returns c = rw (c .before .before .if1 .taken, c .spend .ensures)
+returns c = rw (c .before .if1 .taken, c .spend .ensures)
 
 returns-2 : tie.Need-returns-2
 unfolding handshake pick

@@ -26,14 +26,14 @@ heard-requires-2 c κs = search needs
 
 returns-3 : tie.Need-returns-3
 unfolding judgeOut pick
-returns-3 c = rw (c .before .before .before .before .before .before .if1 .left, c .before .before .before .before .before .if2 .taken, c .before .before .before .before .if3 .left, sym (c .before .before .fits2 .ensures) ∙ c .before .if4 .taken) (c .heard2 .ensures)
+returns-3 c = rw (c .before .before .before .before .before .if1 .left, c .before .before .before .before .if2 .taken, c .before .before .before .if3 .left, sym (c .before .before .fits2 .ensures) ∙ c .before .if4 .taken) (c .heard2 .ensures)
 
 heard-requires-3 : tie.Need-heard-requires-3
 heard-requires-3 c κs = search needs
 
 returns-4 : tie.Need-returns-4
 unfolding judgeOut pick
-returns-4 c = rw (c .before .before .before .before .before .before .if1 .left, c .before .before .before .before .before .if2 .taken, c .before .before .before .before .if3 .left, sym (c .before .before .fits2 .ensures) ∙ c .before .if4 .left) (c .heard3 .ensures)
+returns-4 c = rw (c .before .before .before .before .before .if1 .left, c .before .before .before .before .if2 .taken, c .before .before .before .if3 .left, sym (c .before .before .fits2 .ensures) ∙ c .before .if4 .left) (c .heard3 .ensures)
 
 heard-requires-4 : tie.Need-heard-requires-4
 heard-requires-4 c κs = search needs

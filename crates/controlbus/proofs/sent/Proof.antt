@@ -17,6 +17,9 @@ enum-told-2 c = search needs
 enum-told-3 : tie.Need-enum-told-3
 enum-told-3 c = search needs
 
+stalled-requires : tie.Need-stalled-requires
+stalled-requires c κs = search needs
+
 enum-told-4 : tie.Need-enum-told-4
 enum-told-4 c = search needs
 
@@ -30,7 +33,7 @@ returns-2 : tie.Need-returns-2
 returns-2 c = rw (sym (c .before .before .answer .ensures) ∙ c .enum-told2 .given .1)
 
 returns-3 : tie.Need-returns-3
-returns-3 c = rw (sym (c .before .before .answer .ensures) ∙ c .enum-told3 .given .1)
+returns-3 c = rw (c .stalled .ensures, sym (c .before .before .before .answer .ensures) ∙ c .before .enum-told3 .given .1)
 
 returns-4 : tie.Need-returns-4
 returns-4 c = rw (sym (c .before .before .answer .ensures) ∙ c .enum-told4 .given .1)
@@ -46,6 +49,7 @@ sent-spec =
     enum-told
     enum-told-2
     enum-told-3
+    stalled-requires
     enum-told-4
     enum-told-5
     returns

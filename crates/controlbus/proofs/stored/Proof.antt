@@ -16,7 +16,7 @@ fill-requires c κs = search needs
 
 returns-2 : tie.Need-returns-2
 unfolding stored pick
-returns-2 c = let t = ne-eqb _ _ (c .before .before .before .if1 .left) in record { state = rw (t, c .fill .ensures .counters); bytes = rw t (c .fill .ensures .bytes) }
+returns-2 c = let t = ne-eqb _ _ (c .before .before .if1 .left) in record { state = rw (t, c .fill .ensures .counters); bytes = rw t (c .fill .ensures .bytes) }
 
 pub stored-spec : {M : Type 1} → statement M
 stored-spec = tie.close (tie.spec returns fill-requires returns-2)

@@ -24,11 +24,11 @@ rcount-requires c κs = search needs
 
 returns-3 : tie.Need-returns-3
 unfolding judgeSetup pick
-returns-3 c = let t = simp (c .before .rcount .ensures) at (ne-eqb _ _ (c .if3 .taken)) in rw (sym (c .before .before .before .before .before .refused .ensures) ∙ c .before .before .before .before .if1 .left, c .before .before .before .if2 .left, t)
+returns-3 c = let t = simp (c .before .rcount .ensures) at (ne-eqb _ _ (c .if3 .taken)) in rw (sym (c .before .before .before .before .refused .ensures) ∙ c .before .before .before .if1 .left, c .before .before .if2 .left, t)
 
 returns-4 : tie.Need-returns-4
 unfolding judgeSetup pick
-returns-4 c = let t = simp (c .before .rcount .ensures) at (eq-eqb _ _ (c .if3 .left)) in rw (sym (c .before .before .before .before .before .refused .ensures) ∙ c .before .before .before .before .if1 .left, c .before .before .before .if2 .left, t)
+returns-4 c = let t = simp (c .before .rcount .ensures) at (eq-eqb _ _ (c .if3 .left)) in rw (sym (c .before .before .before .before .refused .ensures) ∙ c .before .before .before .if1 .left, c .before .before .if2 .left, t)
 
 pub judge-setup-spec : {M : Type 1} → statement M
 judge-setup-spec =

@@ -12,7 +12,7 @@ flush-requires c κs = search needs
 
 returns : tie.Need-returns
 unfolding flushed pick
-returns c = rw (eq-eqb _ _ (c .before .before .if1 .taken), c .flush .ensures)
+returns c = rw (eq-eqb _ _ (c .before .if1 .taken), c .flush .ensures)
 
 returns-2 : tie.Need-returns-2
 unfolding flushed pick

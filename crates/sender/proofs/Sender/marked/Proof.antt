@@ -12,7 +12,7 @@ mark-requires c κs = search needs
 
 returns : tie.Need-returns
 unfolding marked pick
-returns c = rw (eq-eqb _ _ (c .before .before .if1 .taken), c .mark .ensures)
+returns c = rw (eq-eqb _ _ (c .before .if1 .taken), c .mark .ensures)
 
 returns-2 : tie.Need-returns-2
 unfolding marked pick
