@@ -3,6 +3,7 @@
 use libc::STDOUT_FILENO;
 use lines::LONGEST;
 use refusal::Refusal;
+use running::Ran;
 use running::Stop;
 use state::Chip;
 
@@ -15,8 +16,7 @@ pub fn run(s: &[u8]) {
     let mut number = 0u64;
     let mut turns = u64::MAX;
     while turns > 0 {
-        let r = running::run(chip, &mut memory, s, place, number, &mut out);
-        io::write_all(STDOUT_FILENO, &out[..r.written]);
+        let r = turn(chip, &mut memory, s, place, number, &mut out);
         let stop = r.stop;
         let Stop::Full = stop else {
             told(stop);
@@ -27,6 +27,13 @@ pub fn run(s: &[u8]) {
         number = r.number;
         turns -= 1;
     }
+}
+
+// Runs on, and writes what fits the buffer.
+fn turn(c: Chip, memory: &mut [u8; 392], s: &[u8], at: usize, number: u64, out: &mut [u8]) -> Ran {
+    let r = running::run(c, memory, s, at, number, out);
+    io::write_all(STDOUT_FILENO, &out[..r.written]);
+    r
 }
 
 // An input that is too long, or a state that is not well formed, has printed nothing yet.

@@ -8,10 +8,10 @@ use commands::Next;
 use driver::Did;
 use driver::Driven;
 use driver::Driver;
+use event::Event;
 use libc::STDIN_FILENO;
 use libc::STDOUT_FILENO;
 use lines::LONGEST;
-use receiving::Received;
 use refusal::Refusal;
 use state::Chip;
 use trace::Found;
@@ -46,6 +46,8 @@ fn obey_all(s: &[u8]) {
             return;
         };
         let r = obey(chip, driver, &mut memory, command, trace::payload(s, span));
+        let did = r.did;
+        said(command, did);
         chip = r.chip;
         driver = r.driver;
         place = span.next;
@@ -69,13 +71,13 @@ fn say(s: &[u8]) {
     io::write_all(STDOUT_FILENO, s);
 }
 
-// One command, with its bytes, and its line.
+// One command, with its bytes; a receive service and an event have written their line when it is done.
 fn obey(c: Chip, d: Driver, memory: &mut [u8; 392], command: Command, s: &[u8]) -> Driven {
     match command {
-        Command::Start(a, e, f) => told(driver::start(memory, a, e, f)),
-        Command::Offer => told(driver::offer(c, d, memory, s)),
-        Command::Send => told(driver::send_service(c, d, memory)),
-        Command::Receive => received(receiving::receive_service(c, d, memory)),
+        Command::Start(a, e, f) => driver::start(memory, a, e, f),
+        Command::Offer => driver::offer(c, d, memory, s),
+        Command::Send => driver::send_service(c, d, memory),
+        Command::Receive => receive(c, d, memory),
         Command::Event => Driven {
             chip: event(c, memory, s),
             driver: d,
@@ -84,9 +86,17 @@ fn obey(c: Chip, d: Driver, memory: &mut [u8; 392], command: Command, s: &[u8]) 
     }
 }
 
+// The line of a call that has written none.
+fn said(command: Command, did: Did) {
+    match command {
+        Command::Receive => {}
+        Command::Event => {}
+        _ => told(did),
+    }
+}
+
 // What a call did, in a word; a packet follows `taken `.
-fn told(r: Driven) -> Driven {
-    let did = r.did;
+fn told(did: Did) {
     match did {
         Did::Done => say(b"ok\n"),
         Did::Nothing => say(b"nothing\n"),
@@ -97,7 +107,6 @@ fn told(r: Driven) -> Driven {
         Did::Repeat => say(b"repeat\n"),
         Did::Refused(why) => refused(why),
     }
-    r
 }
 
 fn refused(why: Refusal) {
@@ -106,24 +115,29 @@ fn refused(why: Refusal) {
     say(b"\n");
 }
 
-// A receive service has its own word for nothing, and a packet that it took in hex.
-fn received(r: Received) -> Driven {
+fn receive(c: Chip, d: Driver, memory: &mut [u8; 392]) -> Driven {
+    let r = receiving::receive_service(c, d, memory);
     let driven = r.driven;
     let did = driven.did;
+    let packet = r.packet;
+    received(did, &packet, r.count);
+    driven
+}
+
+// A receive service has its own word for nothing, and a packet that it took in hex.
+fn received(did: Did, packet: &[u8; 64], count: usize) {
     if let Did::Nothing = did {
         say(b"none\n");
-        return driven;
+        return;
     }
-    told(driven);
+    told(did);
     if let Did::Taken = did {
-        let packet = r.packet;
         let all = Span {
             payload: 0,
-            next: r.count,
+            next: count,
         };
-        hex(trace::payload(&packet, all));
+        hex(trace::payload(packet, all));
     }
-    driven
 }
 
 // Bytes in hex, `-` for none.
@@ -144,12 +158,7 @@ fn hex(s: &[u8]) {
 // One record of a trace, given to the chip; no bytes at all are a record that is cut.
 fn event(c: Chip, memory: &mut [u8; 392], s: &[u8]) -> Chip {
     match reader::read(s, 0) {
-        Found::Record(event, span) => {
-            let r = chip::step(c, memory, event, reader::payload(s, span));
-            let reply = r.reply;
-            replied(reply, memory, r.line);
-            r.chip
-        }
+        Found::Record(event, span) => happened(c, memory, event, reader::payload(s, span)),
         Found::Refused(why, _) => {
             not_read(why);
             c
@@ -159,6 +168,13 @@ fn event(c: Chip, memory: &mut [u8; 392], s: &[u8]) -> Chip {
             c
         }
     }
+}
+
+fn happened(c: Chip, memory: &mut [u8; 392], event: Event, s: &[u8]) -> Chip {
+    let r = chip::step(c, memory, event, s);
+    let reply = r.reply;
+    replied(reply, memory, r.line);
+    r.chip
 }
 
 fn replied(reply: Reply, memory: &[u8; 392], raised: bool) {

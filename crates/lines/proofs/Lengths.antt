@@ -6,7 +6,11 @@ use mathlib.Core.Path.{_≡_, refl}
 use mathlib.Core.Bool.{Bool}
 use mathlib.Core.List.{List, [], _∷_}
 use lib.ListN.{length, length-append}
-use Rattle.digits.specs.Text.{decimal}
+use Rattle.digits.specs.Text.{digit, decimal}
+use Rattle.digits.proofs.Figures.{decimal-one}
+use Rattle.refusal.specs.declared.Refusal.{Refusal}
+use Rattle.refusal.specs.declared.Refusal.the-variants.{Cut, NotShortest, NoKind, OutOfRange, NotWellFormed, OfferTooLong, PacketHeld, InputTooLong}
+use Rattle.refusal.specs.Refusal.{numberOf}
 use Rattle.answer.specs.declared.Answer.{Answer}
 use Rattle.answer.specs.declared.Answer.the-variants.{Silence, Value, Data0, Data1, Broken, Ack, Nak, Stall}
 use Rattle.packet.specs.Packet.{packetBytes, hexBytes}
@@ -49,3 +53,17 @@ line-length n a m line = simp length-append (omega arith)
 pub refusal-length : (n k p : ℕ) → length (refusalText n k p) ≡ length (decimal n) + 12 + length (decimal k) + length (decimal p) + 1
 unfolding refusalText
 refusal-length n k p = simp length-append (omega arith)
+
+-- The refusals' numbers have one digit.
+pub number-small : (r : Refusal) → numberOf r ≤ 8
+number-small Cut = omega arith
+number-small NotShortest = omega arith
+number-small NoKind = omega arith
+number-small OutOfRange = omega arith
+number-small NotWellFormed = omega arith
+number-small OfferTooLong = omega arith
+number-small PacketHeld = omega arith
+number-small InputTooLong = omega arith
+
+pub one-digit : (r : Refusal) → decimal (numberOf r) ≡ digit (numberOf r) ∷ []
+one-digit r = decimal-one (numberOf r) (omega (arith, number-small r))

@@ -3,6 +3,8 @@
 ghost use mathlib.Core.Path.{_≡_};
 ghost use mathlib.Core.List.{_++_};
 ghost use Prim.Native.Nat.{_+_, _≤_};
+ghost use Rattle.epc.specs.Bits.{bitOf};
+ghost use Rattle.digits.specs.Text.{digit};
 ghost use Rattle.refusal.specs.Refusal.{numberOf};
 ghost use Rattle.lines.specs.Line.{payloadText, valueText, answerText, lineText, refusalText, Printed};
 ghost use Rattle.packet.specs.Packet.{packetBytes};
@@ -68,6 +70,13 @@ fn answered(out: &mut [u8], at: usize, i: usize, answer: Answer, memory: &[u8; 3
     }
 }
 
+// The interrupt line as a digit.
+fn level(raised: bool) -> u8
+    ensures { λ r. ⌜ r ≡ digit (bitOf raised) ⌝ }
+{
+    48 + epc::bit(raised)
+}
+
 // Writes an event's line, and tells how long it is.
 pub fn line(
     out: &mut [u8],
@@ -83,9 +92,7 @@ pub fn line(
     digits::put(out, at, n, b' ');
     let k = answered(out, at, n + 1, answer, memory);
     let e = n + 1 + k;
-    digits::put(out, at, e, b' ');
-    digits::put(out, at, e + 1, 48 + epc::bit(raised));
-    digits::put(out, at, e + 2, b'\n');
+    digits::text(out, at, e, &[b' ', level(raised), b'\n']);
     e + 3
 }
 
@@ -95,9 +102,9 @@ pub fn refusal(out: &mut [u8], at: usize, number: u64, r: Refusal, place: usize)
 {
     let n = digits::decimal(out, at, 0, number);
     digits::text(out, at, n, b" refuse ");
-    let k = digits::decimal(out, at, n + 8, r.number() as u64);
-    digits::text(out, at, n + 8 + k, b" at ");
-    let e = n + 12 + k;
+    let k = 48 + r.number();
+    digits::text(out, at, n + 8, &[k, b' ', b'a', b't', b' ']);
+    let e = n + 13;
     let p = digits::decimal(out, at, e, place as u64);
     digits::put(out, at, e + p, b'\n');
     e + p + 1

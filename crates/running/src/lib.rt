@@ -3,6 +3,7 @@
 ghost use mathlib.Core.Path.{_≡_};
 ghost use Prim.Native.Nat.{_≤_};
 ghost use lib.ListN.{length};
+ghost use lib.Dec.{ltb};
 ghost use Rattle.refusal.specs.Refusal.{numberOf};
 ghost use Rattle.trace.specs.Record.{refuse};
 ghost use Rattle.trace.specs.Meaning.{meaning};
@@ -37,7 +38,7 @@ pub fn run(c: Chip, memory: &mut [u8; 392], s: &[u8], at: usize, number: u64, ou
     ensures { λ r. ⌜ Runs (runOf (now (s .entry)) (running (spotAt c (now (memory .entry)) at number) (now (out .entry)) 0)) r (now (memory .exit)) (now (out .exit)) ⌝ }
     ensures { λ r. ⌜ r .written ≤ length (now (out .exit)) ⌝ }
 {
-    if MOST < s.len() {
+    if too_long(s) {
         return Ran {
             chip: c,
             place: at,
@@ -56,6 +57,13 @@ pub fn run(c: Chip, memory: &mut [u8; 392], s: &[u8], at: usize, number: u64, ou
         written: 0,
         stop: Stop::Refused(Refusal::NotWellFormed, at),
     }
+}
+
+// Whether a trace is longer than the longest.
+fn too_long(s: &[u8]) -> bool
+    ensures { λ r. ⌜ r ≡ ltb 65536 (length (now (s .entry))) ⌝ }
+{
+    MOST < s.len()
 }
 
 // One event after another. A record that is no event, and an event without room for its line, end it.

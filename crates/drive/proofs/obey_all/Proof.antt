@@ -35,6 +35,9 @@ payload-requires c κs = search needs
 obey-requires : tie.Need-obey-requires Inv-loop μ-loop
 obey-requires c κs = search needs
 
+said-requires : tie.Need-said-requires Inv-loop μ-loop
+said-requires c κs = search needs
+
 add-number : tie.Need-add-number Inv-loop μ-loop
 add-number c = search needs
 
@@ -61,6 +64,7 @@ obey-all-spec =
     returns
     payload-requires
     obey-requires
+    said-requires
     add-number
     loop-less
     loop-again

@@ -29,26 +29,14 @@ add-e c = search needs
 add-e-2 : tie.Need-add-e-2
 add-e-2 c = search needs
 
-put-requires-2 : tie.Need-put-requires-2
-put-requires-2 c κs = search needs
+level-requires : tie.Need-level-requires
+level-requires c κs = search needs
 
-add-put : tie.Need-add-put
-add-put c = search needs
+slice-aggregate-text : tie.Need-slice-aggregate-text
+slice-aggregate-text c = search needs
 
-bit-requires : tie.Need-bit-requires
-bit-requires c κs = search needs
-
-add-put-2 : tie.Need-add-put-2
-add-put-2 c = search needs
-
-put-requires-3 : tie.Need-put-requires-3
-put-requires-3 c κs = search needs
-
-add-put-3 : tie.Need-add-put-3
-add-put-3 c = search needs
-
-put-requires-4 : tie.Need-put-requires-4
-put-requires-4 c κs = search needs
+text-requires : tie.Need-text-requires
+text-requires c κs = search needs
 
 add-result : tie.Need-add-result
 add-result c = search needs
@@ -59,10 +47,8 @@ same-length c = search needs
 returns : tie.Need-returns
 unfolding lineText
 returns c =
-    let last = c .before .before in
-    let third = last .before .before .before .before in
-    let second = third .before .before .before .before .before in
-    let answer = second .before .before .before .before in
+    let end = c .before .before in
+    let answer = end .before .before .before .before .before .before in
     let first = answer .before .before .before .before in
     let number = first .before .before .before .before in
     let a = number .before .before .before .args in
@@ -73,10 +59,7 @@ returns c =
           (rw add-zero at
           (and-then _ 0 _ _ _ _ (number .decimal .ensures .bytes)
           (and-then _ _ _ _ _ _ (first .put .ensures)
-          (and-then _ _ _ _ _ _ (answer .answered .ensures .0 .bytes)
-          (and-then _ _ _ _ _ _ (second .put2 .ensures)
-          (and-then _ _ _ _ _ _ (rw (third .before .bit .ensures .0) at (third .put3 .ensures)) (last .put4 .ensures)
-          (omega arith)) (omega arith))
+          (and-then _ _ _ _ _ _ (answer .answered .ensures .0 .bytes) (rw (end .before .before .level .ensures) at (end .text .ensures))
           (omega (arith, answer .answered .ensures .0 .count)))
           (omega arith))
           (omega (arith, number .decimal .ensures .width))));
@@ -92,13 +75,9 @@ line-spec =
     answered-requires
     add-e
     add-e-2
-    put-requires-2
-    add-put
-    bit-requires
-    add-put-2
-    put-requires-3
-    add-put-3
-    put-requires-4
+    level-requires
+    slice-aggregate-text
+    text-requires
     add-result
     same-length
     returns)

@@ -2,15 +2,14 @@
 -- Assumes nothing.
 use native.Mathlib.Nat.{add-zero}
 use native.Mathlib.Omega.{arith}
-use mathlib.Core.Path.{_≡_}
+use mathlib.Core.Path.{ap}
 use mathlib.Core.List.{append-assoc}
 use lib.ListN.{length}
 use borrow.Author.Needs.{needs}
-use Rattle.digits.specs.Text.{decimal}
 use Rattle.refusal.specs.Refusal.{numberOf}
 use Rattle.lines.specs.Line.{refusalText}
 use Rattle.lines.proofs.Joined.{and-then}
-use Rattle.lines.proofs.Lengths.{refusal-length}
+use Rattle.lines.proofs.Lengths.{refusal-length, one-digit, number-small}
 use Rattle.lines.proofs.refusal.Statement.{statement}
 use Rattle.lines.proofs.refusal.Tie as tie
 
@@ -23,23 +22,14 @@ slice-aggregate-text c = search needs
 text-requires : tie.Need-text-requires
 text-requires c κs = search needs
 
-add-decimal : tie.Need-add-decimal
-add-decimal c = search needs
-
 number-requires : tie.Need-number-requires
 number-requires c κs = search needs
 
-cast-decimal : tie.Need-cast-decimal
-cast-decimal c = search needs
-
-decimal-requires-2 : tie.Need-decimal-requires-2
-decimal-requires-2 c κs = search needs
+add-k : tie.Need-add-k
+add-k c = omega (arith, number-small (c .before .before .before .before .before .before .before .before .before .before .before .args .r), c .number .ensures)
 
 add-text : tie.Need-add-text
 add-text c = search needs
-
-add-text-2 : tie.Need-add-text-2
-add-text-2 c = search needs
 
 slice-aggregate-text-2 : tie.Need-slice-aggregate-text-2
 slice-aggregate-text-2 c = search needs
@@ -50,11 +40,8 @@ text-requires-2 c κs = search needs
 add-e : tie.Need-add-e
 add-e c = search needs
 
-add-e-2 : tie.Need-add-e-2
-add-e-2 c = search needs
-
-decimal-requires-3 : tie.Need-decimal-requires-3
-decimal-requires-3 c κs = search needs
+decimal-requires-2 : tie.Need-decimal-requires-2
+decimal-requires-2 c κs = search needs
 
 add-put : tie.Need-add-put
 add-put c = search needs
@@ -76,26 +63,24 @@ unfolding refusalText
 returns c =
     let end = c .before .before in
     let place = end .before .before .before .before in
-    let at = place .before .before .before .before in
-    let kind = at .before .before .before .before .before in
-    let refuse = kind .before .before .before .before .before in
+    let kind = place .before .before .before .before in
+    let refuse = kind .before .before .before .before .before .before in
     let number = refuse .before .before .before .before .before in
     let a = number .before .before .before .args in
-    let k : kind .decimal2 .result ≡ length (decimal (numberOf (a .r))) = rw (kind .before .number .ensures) at (kind .decimal2 .ensures .width) in
+    let one = one-digit (a .r) in
     record {
-      count = omega (arith, refusal-length (a .number) (numberOf (a .r)) (a .place), number .decimal .ensures .width, place .decimal3 .ensures .width);
+      count = omega (arith, refusal-length (a .number) (numberOf (a .r)) (a .place), ap length one, number .decimal .ensures .width, place .decimal2 .ensures .width);
       bytes =
-          simp append-assoc
+          rw one
+          (simp append-assoc
           (rw add-zero at
           (and-then _ 0 _ _ _ _ (number .decimal .ensures .bytes)
           (and-then _ _ _ _ _ _ (refuse .text .ensures)
-          (and-then _ _ _ _ _ _ (rw (kind .before .number .ensures) at (kind .decimal2 .ensures .bytes))
-          (and-then _ _ _ _ _ _ (at .text2 .ensures)
-          (and-then _ _ _ _ _ _ (place .decimal3 .ensures .bytes) (end .put .ensures)
-          (omega (arith, place .decimal3 .ensures .width))) (omega arith))
+          (and-then _ _ _ _ _ _ (rw (kind .before .before .before .number .ensures) at (kind .text2 .ensures))
+          (and-then _ _ _ _ _ _ (place .decimal2 .ensures .bytes) (end .put .ensures)
+          (omega (arith, place .decimal2 .ensures .width))) (omega arith))
           (omega arith))
-          (omega arith))
-          (omega (arith, number .decimal .ensures .width))));
+          (omega (arith, number .decimal .ensures .width)))));
     }
 
 pub refusal-spec : {M : Type 1} → statement M
@@ -105,17 +90,13 @@ refusal-spec =
     decimal-requires
     slice-aggregate-text
     text-requires
-    add-decimal
     number-requires
-    cast-decimal
-    decimal-requires-2
+    add-k
     add-text
-    add-text-2
     slice-aggregate-text-2
     text-requires-2
     add-e
-    add-e-2
-    decimal-requires-3
+    decimal-requires-2
     add-put
     put-requires
     add-result

@@ -4,7 +4,6 @@ use borrow.Author.Needs.{needs}
 use Rattle.running.proofs.Within.{run-within}
 use Rattle.running.specs.Run.{running, runOf}
 use Rattle.choice.specs.Choice.{pick}
-use borrow.Author.Tests.{lt-ltb, le-ltb}
 use Rattle.running.specs.Output.{spotAt}
 use denote.Ref.{now}
 use lib.ListN.{length}
@@ -13,17 +12,20 @@ use native.Mathlib.Omega.{arith}
 use Rattle.running.proofs.run.Statement.{statement}
 use Rattle.running.proofs.run.Tie as tie
 
+too-long-requires : tie.Need-too-long-requires
+too-long-requires c κs = search needs
+
 returns : tie.Need-returns
 unfolding runOf pick
 returns c = (
   record {
-    chip = rw (lt-ltb _ _ (c .if1 .taken));
-    place = rw (lt-ltb _ _ (c .if1 .taken));
-    number = rw (lt-ltb _ _ (c .if1 .taken));
-    written = rw (lt-ltb _ _ (c .if1 .taken));
-    why = rw (lt-ltb _ _ (c .if1 .taken));
-    bytes = rw (lt-ltb _ _ (c .if1 .taken));
-    buffer = rw (lt-ltb _ _ (c .if1 .taken));
+    chip = rw (← c .before .too-long .ensures, c .if1 .taken);
+    place = rw (← c .before .too-long .ensures, c .if1 .taken);
+    number = rw (← c .before .too-long .ensures, c .if1 .taken);
+    written = rw (← c .before .too-long .ensures, c .if1 .taken);
+    why = rw (← c .before .too-long .ensures, c .if1 .taken);
+    bytes = rw (← c .before .too-long .ensures, c .if1 .taken);
+    buffer = rw (← c .before .too-long .ensures, c .if1 .taken);
   },
   omega arith,
 )
@@ -40,22 +42,22 @@ same-length c = search needs
 returns-2 : tie.Need-returns-2
 unfolding runOf pick
 returns-2 c =
-    let start = c .before .before .before .before .before .before .before .before .before .before in
+    let start = c .before .before .before .before .before .before .before .before .before .before .before in
     let within =
     run-within (now (start .args .s)) (start .good .1 .1 .0 .0) (length (now (start .args .s))) (running (spotAt (start .args .c) (now (start .args .memory)) (start .args .at) (start .args .number)) (now (start .args .out)) 0) (record { written = omega arith }) (record { place = start .fits .at .fits; number = start .fits .number .fits }) in
-    (rw (le-ltb _ _ (c .before .before .before .before .before .before .before .if1 .left), ← c .before .before .before .before .before .before .well-formed .ensures, c .before .before .before .before .before .if2 .taken) (c .before .before .events .ensures), omega (arith, within .written, c .before .before .events .ensures .written, ap length (c .before .before .events .ensures .buffer)))
+    (rw (← c .before .before .before .before .before .before .before .before .too-long .ensures, c .before .before .before .before .before .before .before .if1 .left, ← c .before .before .before .before .before .before .well-formed .ensures, c .before .before .before .before .before .if2 .taken) (c .before .before .events .ensures), omega (arith, within .written, c .before .before .events .ensures .written, ap length (c .before .before .events .ensures .buffer)))
 
 returns-3 : tie.Need-returns-3
 unfolding runOf pick
 returns-3 c = (
   record {
-    chip = rw (le-ltb _ _ (c .before .before .if1 .left), ← c .before .well-formed .ensures, c .if2 .left);
-    place = rw (le-ltb _ _ (c .before .before .if1 .left), ← c .before .well-formed .ensures, c .if2 .left);
-    number = rw (le-ltb _ _ (c .before .before .if1 .left), ← c .before .well-formed .ensures, c .if2 .left);
-    written = rw (le-ltb _ _ (c .before .before .if1 .left), ← c .before .well-formed .ensures, c .if2 .left);
-    why = rw (le-ltb _ _ (c .before .before .if1 .left), ← c .before .well-formed .ensures, c .if2 .left);
-    bytes = rw (le-ltb _ _ (c .before .before .if1 .left), ← c .before .well-formed .ensures, c .if2 .left);
-    buffer = rw (le-ltb _ _ (c .before .before .if1 .left), ← c .before .well-formed .ensures, c .if2 .left);
+    chip = rw (← c .before .before .before .too-long .ensures, c .before .before .if1 .left, ← c .before .well-formed .ensures, c .if2 .left);
+    place = rw (← c .before .before .before .too-long .ensures, c .before .before .if1 .left, ← c .before .well-formed .ensures, c .if2 .left);
+    number = rw (← c .before .before .before .too-long .ensures, c .before .before .if1 .left, ← c .before .well-formed .ensures, c .if2 .left);
+    written = rw (← c .before .before .before .too-long .ensures, c .before .before .if1 .left, ← c .before .well-formed .ensures, c .if2 .left);
+    why = rw (← c .before .before .before .too-long .ensures, c .before .before .if1 .left, ← c .before .well-formed .ensures, c .if2 .left);
+    bytes = rw (← c .before .before .before .too-long .ensures, c .before .before .if1 .left, ← c .before .well-formed .ensures, c .if2 .left);
+    buffer = rw (← c .before .before .before .too-long .ensures, c .before .before .if1 .left, ← c .before .well-formed .ensures, c .if2 .left);
   },
   omega arith,
 )
@@ -63,4 +65,4 @@ returns-3 c = (
 pub run-spec : {M : Type 1} → statement M
 run-spec =
     tie.close
-    (tie.spec returns well-formed-requires events-requires same-length returns-2 returns-3)
+    (tie.spec too-long-requires returns well-formed-requires events-requires same-length returns-2 returns-3)
