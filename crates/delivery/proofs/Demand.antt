@@ -6,13 +6,13 @@ use mathlib.Core.Logic.{_⊎_}
 use mathlib.Core.Bool.{true}
 use mathlib.Core.List.{List, _++_}
 use Rattle.driver.specs.Driver.{startable}
-use Rattle.world.specs.Host.{Action, over}
-use Rattle.world.specs.World.{Pipes, World, startWorld, acts, held}
-use Rattle.world.specs.Lists.{AllBytes, has, hostHeld, SentAgain, ReceivedAgain}
-use Rattle.sendpipe.proofs.Always.{sent-always}
-use Rattle.sendpipe.proofs.Again.{sent-again}
-use Rattle.receivepipe.proofs.Received.{received-always}
-use Rattle.receivepipe.proofs.Again.{received-again}
+use Rattle.delivery.specs.Host.{Action, over}
+use Rattle.delivery.specs.World.{Pipes, World, startWorld, acts, held}
+use Rattle.delivery.specs.Lists.{AllBytes, has, hostHeld, SentAgain, ReceivedAgain}
+use Rattle.delivery.proofs.Send.Always.{sent-always}
+use Rattle.delivery.proofs.Send.Again.{sent-again}
+use Rattle.delivery.proofs.Receive.Received.{received-always}
+use Rattle.delivery.proofs.Receive.Again.{received-again}
 
 -- "Take the driver on endpoints 1 and 2 from a fresh start, set up as 01 says, and a host .. after any run of transactions, offers and services"
 module _ (p : Pipes) (xs : List Action) (starts : startable (p .a) (p .e) (p .f) ≡ true) (bytes : AllBytes xs) where

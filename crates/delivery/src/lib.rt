@@ -1,1 +1,1 @@
-// Demand 3: the theorems, each under its sentence. No code.
+// Demand 3: chip, driver and host, and the theorems that nothing is lost, repeated or reordered, with the laws below them: no code.

@@ -8,10 +8,10 @@ use Rattle.event.specs.declared.BusEndpoint.{BusEndpoint}
 use Rattle.event.specs.declared.Event.{Event}
 use Rattle.state.specs.State.{Model, reset}
 use Rattle.formed.specs.Formed.{wellFormed}
-use Rattle.typed.specs.Typed.{Bytes, Typed}
-use Rattle.typed.proofs.Registers.{read-typed, write-typed, write-bytes-typed}
-use Rattle.typed.proofs.Chip.{reset-chip-typed, reset-memory-typed}
-use Rattle.invariant.proofs.Registers.{reset-well, read-keeps, write-keeps}
+use Rattle.laws.specs.Typed.{Bytes, Typed}
+use Rattle.laws.proofs.Typed.Registers.{read-typed, write-typed, write-bytes-typed}
+use Rattle.laws.proofs.Typed.Chip.{reset-chip-typed, reset-memory-typed}
+use Rattle.laws.proofs.Formed.Registers.{reset-well, read-keeps, write-keeps}
 use Rattle.driver.specs.declared.Driver.{Driver}
 use Rattle.driver.specs.Registers.{written, seen}
 use Rattle.driver.specs.Driver.{started, offered, sendServed}

@@ -20,7 +20,7 @@ use Rattle.receiver.specs.declared.Receiver.{Receiver}
 use Rattle.receiver.specs.Receiver.{resetReceiver, cleared, takeByte}
 use Rattle.state.specs.State.{Model, receiverAt}
 use Rattle.reads.specs.Read.{readOf, receiverRead}
-use Rattle.typed.specs.Typed.{TypedReceiver}
+use Rattle.laws.specs.Typed.{TypedReceiver}
 use Rattle.driver.specs.declared.Driver.{Driver}
 use Rattle.driver.specs.declared.Did.the-variants.{Taken}
 use Rattle.driver.specs.Registers.{value, seen}

@@ -11,8 +11,8 @@ use Rattle.event.specs.declared.BusEndpoint.{BusEndpoint}
 use Rattle.event.specs.declared.Event.{Event}
 use Rattle.event.specs.declared.Event.the-variants as event
 use Rattle.state.specs.State.{Model, reset}
-use Rattle.typed.specs.Typed.{Bytes}
-use Rattle.frame.specs.Driver.{reserved}
+use Rattle.laws.specs.Typed.{Bytes}
+use Rattle.laws.specs.Driver.{reserved}
 use Rattle.driver.specs.declared.Driver.{Driver}
 use Rattle.driver.specs.declared.Did.{Did}
 use Rattle.driver.specs.declared.Did.the-variants.{Flushed, Repeat}

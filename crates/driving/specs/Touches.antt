@@ -5,7 +5,7 @@ use mathlib.Core.Bool.{true}
 use Rattle.event.specs.declared.Event.{Event}
 use Rattle.event.specs.declared.Event.the-variants as event
 use Rattle.state.specs.State.{Model}
-use Rattle.frame.specs.Driver.{reserved}
+use Rattle.laws.specs.Driver.{reserved}
 use Rattle.driver.specs.declared.Driver.{Driver}
 use Rattle.driver.specs.Registers.{written, seen}
 use Rattle.driver.specs.Driver.{Call}

@@ -10,7 +10,7 @@ use lib.Dec.{ltb}
 use borrow.Author.Tests.{le-ltb, lt-ltb, le-leb}
 use Rattle.choice.specs.Choice.{pick}
 use Rattle.lines.specs.Line.{refusalText, longest}
-use Rattle.typed.specs.Typed.{Bytes}
+use Rattle.laws.specs.Typed.{Bytes}
 use Rattle.running.specs.Output.{Spot, outputFrom}
 use Rattle.running.specs.Run.{full, running, fits, roomy, runFor, runOf}
 use Rattle.running.proofs.Within.{Numbers}

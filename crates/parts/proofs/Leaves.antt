@@ -15,7 +15,7 @@ use Rattle.trace.specs.Record.{Reading, event, end, refuse, readAt, stretch}
 use Rattle.reading.proofs.Reader.{next-past, place-is-start}
 use Rattle.printed.proofs.Overlay.{overlay-length, overlay-rest}
 use Rattle.lines.specs.Line.{refusalText}
-use Rattle.typed.specs.Typed.{Bytes}
+use Rattle.laws.specs.Typed.{Bytes}
 use Rattle.running.specs.Output.{did, lineOf}
 use Rattle.running.specs.Run.{Reason, ended, refused, full, Running, Stopped, stopping, roomy, ending, onward, printing, runFor}
 use Rattle.running.proofs.Turns.{room-says}

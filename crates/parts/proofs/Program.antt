@@ -10,7 +10,7 @@ use lib.Dec.{ltb}
 use borrow.Author.Tests.{ltb-true, ltb-false}
 use Rattle.choice.specs.Choice.{pick}
 use Rattle.lines.specs.Line.{refusalText}
-use Rattle.typed.specs.Typed.{Bytes}
+use Rattle.laws.specs.Typed.{Bytes}
 use Rattle.running.specs.declared.Ran.{Ran}
 use Rattle.running.specs.Output.{Spot, spotAt, start, output}
 use Rattle.running.specs.Run.{full, Stopped, Runs}

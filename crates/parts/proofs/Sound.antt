@@ -12,11 +12,11 @@ use Rattle.trace.specs.Record.{event, readAt, stretch}
 use Rattle.reading.proofs.Reader.{answers-in-range}
 use Rattle.state.specs.State.{Model}
 use Rattle.formed.specs.Formed.{wellFormed}
-use Rattle.typed.specs.Typed.{Bytes, Typed}
-use Rattle.typed.proofs.Ranges.{in-range-typed}
-use Rattle.typed.proofs.Step.{reset-typed, step-typed}
-use Rattle.invariant.proofs.Registers.{reset-well}
-use Rattle.invariant.proofs.Step.{step-keeps}
+use Rattle.laws.specs.Typed.{Bytes, Typed}
+use Rattle.laws.proofs.Typed.Ranges.{in-range-typed}
+use Rattle.laws.proofs.Typed.Step.{reset-typed, step-typed}
+use Rattle.laws.proofs.Formed.Registers.{reset-well}
+use Rattle.laws.proofs.Formed.Step.{step-keeps}
 use Rattle.running.specs.Output.{Spot, did, start}
 
 abbrev pub modelAt : Spot → Model

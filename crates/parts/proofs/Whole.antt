@@ -10,7 +10,7 @@ use lib.Dec.{ltb}
 use borrow.Author.Tests.{lt-ltb, ltb-true, ltb-false}
 use Rattle.choice.specs.Choice.{pick}
 use Rattle.lines.specs.Line.{refusalText, longest}
-use Rattle.typed.specs.Typed.{Bytes}
+use Rattle.laws.specs.Typed.{Bytes}
 use Rattle.running.specs.Output.{Spot, outputFrom, start, output}
 use Rattle.running.specs.Run.{Reason, ended, refused, full, Running, stopping, running, runOf}
 use Rattle.parts.specs.Loop.{rest, written, called, told, Calls, followed, calls, reused}

@@ -1,5 +1,0 @@
--- What is one endpoint's, which endpoint an event is for, the exceptions, the settings, and what is the driver's own.
-pub mod Place
-pub mod Owner
-pub mod Settings
-pub mod Driver

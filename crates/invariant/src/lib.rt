@@ -1,1 +1,0 @@
-// Every event leaves a well-formed state well formed: theorems, no code.

@@ -1,2 +1,0 @@
--- Where a packet of endpoint 1 is.
-pub mod Stage

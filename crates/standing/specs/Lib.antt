@@ -1,2 +1,0 @@
--- What stands in every world that is reached.
-pub mod Standing
