@@ -1,5 +1,7 @@
 // What is seen of an event. A packet that is sent is named by where its bytes stand in the lent memory.
 // The definitions that the contracts cite are in specs/.
+#![tactic(auto)]
+
 ghost use Rattle.std.specs.Prelude.{◌≡◌};
 ghost use Rattle.answer.specs.Answer.{silent};
 
@@ -7,7 +9,7 @@ use state::Chip;
 use window::Window;
 
 // The bytes of a packet: `count` of them in a window of the lent memory, from the place of the counter `from` on.
-#[derive(Drop)]
+#[derive(Clone, Copy)]
 pub struct Packet {
     pub window: Window,
     pub from: u8,
@@ -15,7 +17,7 @@ pub struct Packet {
 }
 
 // What is seen of an event: a register's value, or what the chip puts on the bus.
-#[derive(Drop)]
+#[derive(Clone, Copy)]
 pub enum Answer {
     Silence,
     Value(u8),
@@ -27,7 +29,7 @@ pub enum Answer {
     Stall,
 }
 
-#[derive(Drop)]
+#[derive(Clone, Copy)]
 pub struct Out {
     pub chip: Chip,
     pub answer: Answer,

@@ -1,5 +1,7 @@
 // The chip at a token in the operational state: IN, OUT, SETUP.
 // The definitions that the contracts cite are in specs/.
+#![tactic(auto)]
+
 ghost use Rattle.std.specs.Prelude.{◌≡◌};
 ghost use Rattle.answer.specs.declared.Answer.TheVariants.{Nak};
 ghost use Rattle.answer.specs.Answer.{gives, silent, packet_of};

@@ -1,5 +1,7 @@
 // The chip for everybody: one event, one register read, one register write, on any state whatever. A state that is not well formed is
 // refused with 5, then an event out of range with 4, and nothing changes. The definitions that the contracts cite are in specs/.
+#![tactic(auto)]
+
 ghost use Rattle.std.specs.Prelude.{◌≡◌, []};
 ghost use Rattle.event.specs.declared.Event.TheVariants as ev;
 ghost use Rattle.chip.specs.Checked.{refusing, Steps};
@@ -9,14 +11,14 @@ use event::Event;
 use refusal::Refusal;
 use state::Chip;
 
-#[derive(Drop)]
+#[derive(Clone, Copy)]
 pub enum Reply {
     Answered(Answer),
     Refused(Refusal),
 }
 
 // The next state, the answer to the event or why it is refused, and the interrupt line.
-#[derive(Drop)]
+#[derive(Clone, Copy)]
 pub struct Stepped {
     pub chip: Chip,
     pub reply: Reply,

@@ -1,5 +1,7 @@
 // The commands of the program `drive`: what command stands at a place of its input. docs/DRIVE.md has the form.
 // It keeps nothing and takes any bytes at any place. The definitions that the contracts cite are in specs/.
+#![tactic(auto)]
+
 ghost use Rattle.std.specs.Prelude.{◌≡◌, ◌≤◌, length};
 ghost use Rattle.commands.specs.Command.{bare, start_at, carrying_at, read_at};
 
@@ -7,7 +9,7 @@ use event::BusEndpoint;
 use trace::Span;
 
 // A call of the driver, or an event for the chip.
-#[derive(Drop)]
+#[derive(Clone, Copy)]
 pub enum Command {
     // address, endpoint to send, endpoint to receive
     Start(u8, BusEndpoint, BusEndpoint),
@@ -18,7 +20,7 @@ pub enum Command {
 }
 
 // What stands at a place: a command with the places of its bytes and of the next one.
-#[derive(Drop)]
+#[derive(Clone, Copy)]
 pub enum Next {
     Whole(Command, Span),
     End,

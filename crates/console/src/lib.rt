@@ -1,53 +1,82 @@
-// A whole trace run from reset, its lines written to standard output a buffer at a time.
-// What is written is `running`'s to say; input and output are the kit's, and assumed.
-use libc::STDOUT_FILENO;
+// A whole trace run from reset, its lines written a buffer at a time; and the reading of an input into a buffer.
+// What is written is `running`'s to say; which bytes reach a system's input and leave its output, no contract says.
+#![tactic(auto)]
+
+ghost use Rattle.std.specs.Prelude.{◌≤◌, length, IfOk};
+
 use lines::LONGEST;
 use refusal::Refusal;
 use running::{Ran, Stop};
 use state::Chip;
+use std::io;
+use std::io::{Read, Write};
+
+// Reads until the buffer is full or the input ends, and tells how many bytes it put at the start of the buffer.
+pub fn read_full<R: Read>(from: &mut R, buf: &mut [u8]) -> io::Result<usize>
+    ensures { IfOk result (λ n. n ≤ length buf.new) }
+{
+    let mut done = 0usize;
+    while done < buf.len() {
+        let n = from.read(&mut buf[done..])?;
+        if n == 0 {
+            break;
+        }
+        done += n;
+    }
+    Ok(done)
+}
 
 // Runs a trace and writes its lines.
-pub fn run(s: &[u8]) {
+pub fn run<W: Write>(to: &mut W, s: &[u8]) -> io::Result<()> {
     let mut memory = [0u8; 392];
-    let mut out = io::large_buffer();
+    let mut out = [0u8; 65536];
     let mut chip = Chip::reset();
     let mut place = 0usize;
     let mut number = 0u64;
     let mut turns = u64::MAX;
     while turns > 0 {
-        let r = turn(chip, &mut memory, s, place, number, &mut out);
+        let r = turn(to, chip, &mut memory, s, place, number, &mut out)?;
         let stop = r.stop;
         let Stop::Full = stop else {
-            told(stop);
-            return;
+            return told(to, stop);
         };
         chip = r.chip;
         place = r.place;
         number = r.number;
         turns -= 1;
     }
+    Ok(())
 }
 
 // Runs on, and writes what fits the buffer.
-fn turn(c: Chip, memory: &mut [u8; 392], s: &[u8], at: usize, number: u64, out: &mut [u8]) -> Ran {
+fn turn<W: Write>(
+    to: &mut W,
+    c: Chip,
+    memory: &mut [u8; 392],
+    s: &[u8],
+    at: usize,
+    number: u64,
+    out: &mut [u8],
+) -> io::Result<Ran> {
     let r = running::run(c, memory, s, at, number, out);
-    io::write_all(STDOUT_FILENO, &out[..r.written]);
-    r
+    to.write_all(&out[..r.written])?;
+    Ok(r)
 }
 
 // An input that is too long, or a state that is not well formed, has printed nothing yet.
-fn told(stop: Stop) {
+fn told<W: Write>(to: &mut W, stop: Stop) -> io::Result<()> {
     let Stop::Refused(why, place) = stop else {
-        return;
+        return Ok(());
     };
     if 5 <= why.number() {
-        at_once(why, place);
+        return at_once(to, why, place);
     }
+    Ok(())
 }
 
 // Writes the line of a refusal before any event: "8 prints with n 0".
-fn at_once(why: Refusal, place: usize) {
+fn at_once<W: Write>(to: &mut W, why: Refusal, place: usize) -> io::Result<()> {
     let mut line = [0u8; LONGEST];
     let n = lines::refusal(&mut line, 0, 0, why, place);
-    io::write_all(STDOUT_FILENO, &line[..n]);
+    to.write_all(&line[..n])
 }

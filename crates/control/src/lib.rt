@@ -1,6 +1,8 @@
 // Endpoint 0: FIFO0's counters, EPC0, TXS0, RXS0, TXC0, RXC0 and the SETUP mark. Bytes stand in the lent memory.
 // What a register access does is in registers.rt, what a bus event does in the crate controlbus. The definitions that the contracts cite
 // are in specs/.
+#![tactic(auto)]
+
 ghost use Rattle.std.specs.Prelude.{◌≡◌};
 ghost use Rattle.control.specs.State.{reset_control, unmarked_empty, well_formed};
 
@@ -11,7 +13,7 @@ mod registers;
 // `stall`, `def` are EPC0; `ack`, `done` are ACK_STAT, TX_DONE of TXS0; `setup`, `toggle`, `last` are SETUP, TOGGLE, RX_LAST of RXS0;
 // `ignin`, `txtoggle`, `sends` are IGN_IN, TOGGLE, TX_EN of TXC0; `ignsetup`, `ignout`, `receives` are IGN_SETUP, IGN_OUT, RX_EN of RXC0.
 // `mark`: the previous token to 0 was a SETUP that was taken.
-#[derive(Drop)]
+#[derive(Clone, Copy)]
 pub struct Control {
     pub fifo: Fifo0,
     pub stall: bool,
@@ -31,7 +33,7 @@ pub struct Control {
 }
 
 // What a read of RXD0 gives: the next state, the byte, and whether it was taken by this read.
-#[derive(Drop)]
+#[derive(Clone, Copy)]
 pub struct TakenByte0 {
     pub control: Control,
     pub value: u8,

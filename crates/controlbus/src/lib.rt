@@ -1,6 +1,8 @@
 // Endpoint 0 at a bus event: an IN token, the end of the wait for a handshake, an OUT token and its data; SETUP is in setup.rt.
 // What is answered and the state after it are two functions, and the second goes by the first. The definitions that the contracts cite are
 // in specs/.
+#![tactic(auto)]
+
 ghost use Rattle.std.specs.Prelude.{◌≡◌, true, false};
 ghost use Rattle.control.specs.State.{with_sends, with_tx_flags};
 ghost use Rattle.controlbus.specs.Bus.{disabled, answer_in, sent, handshake, judge_out, Received, Stored, out_token};
@@ -12,7 +14,7 @@ use verdict::Judged;
 pub mod setup;
 
 // What an IN token finds: silence, NAK, STALL, or DATA0 or DATA1 by TOGGLE.
-#[derive(Drop)]
+#[derive(Clone, Copy)]
 pub enum Sent0 {
     Silence,
     Nak,

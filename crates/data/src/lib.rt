@@ -1,5 +1,7 @@
 // Data after an OUT or a SETUP token, by what is awaited; data that nobody awaits is met with silence.
 // What is answered is judged first; the bytes go into the lent memory. The definitions that the contracts cite are in specs/.
+#![tactic(auto)]
+
 ghost use Rattle.std.specs.Prelude.{◌≡◌};
 ghost use Rattle.answer.specs.declared.Answer.TheVariants.{Nak};
 ghost use Rattle.answer.specs.Answer.{gives, Gives};

@@ -1,5 +1,7 @@
 // Text written into a lent buffer, i places after a place: a byte, a stretch of bytes, a byte in hex, a number in decimal.
 // Every function takes any place and any i: what would stand past the end is not written. The definitions are in specs/.
+#![tactic(auto)]
+
 ghost use Rattle.std.specs.Prelude.{◌≡◌, [], ◌∷◌, ◌+◌, ◌%◌, min, length};
 ghost use Rattle.digits.specs.Text.{overlay, digit, decimal, hex_digit, hex_byte, Written};
 

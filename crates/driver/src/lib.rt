@@ -1,5 +1,7 @@
 // The driver of two bulk pipes: endpoint 1 sends, endpoint 2 receives. Every call goes through the chip's registers.
 // A call on a state that is not well formed is refused with 5 and changes nothing. The definitions that the contracts cite are in specs/.
+#![tactic(auto)]
+
 ghost use Rattle.std.specs.Prelude.{true, ◌≡◌};
 ghost use Rattle.state.specs.State.{reset};
 ghost use Rattle.driver.specs.Registers.{whole, written_all, Leaves};
@@ -10,7 +12,7 @@ use refusal::Refusal;
 use state::Chip;
 
 // Whether a packet is held, the toggle of what is sent, the toggle that is expected.
-#[derive(Drop)]
+#[derive(Clone, Copy)]
 pub struct Driver {
     pub held: bool,
     pub sends: bool,
@@ -19,7 +21,7 @@ pub struct Driver {
 
 // What a call did: a start or an offer done; nothing; the packet delivered, or sent again; a packet taken, a damaged one flushed, a repeat
 // flushed; or nothing at all, for a reason.
-#[derive(Drop)]
+#[derive(Clone, Copy)]
 pub enum Did {
     Done,
     Nothing,
@@ -31,7 +33,7 @@ pub enum Did {
     Refused(Refusal),
 }
 
-#[derive(Drop)]
+#[derive(Clone, Copy)]
 pub struct Driven {
     pub chip: Chip,
     pub driver: Driver,
@@ -39,7 +41,7 @@ pub struct Driven {
 }
 
 // Whether an offer is accepted, or what refuses it.
-#[derive(Drop)]
+#[derive(Clone, Copy)]
 enum Admission {
     Admitted,
     Refused(Refusal),

@@ -1,5 +1,7 @@
 // The end of a wait: for a handshake, with what was held meanwhile, and for data that another bus event came instead of.
 // The definitions that the contracts cite are in specs/.
+#![tactic(auto)]
+
 ghost use Rattle.std.specs.Prelude.{◌≡◌};
 ghost use Rattle.ends.specs.Ends.{idled, done_flush, done_byte, ended_zero, sender_byte, ended_sender, ended_at, ended, dropped_setup, dropped};
 

@@ -1,12 +1,14 @@
 // The endpoint control register of endpoints 1 to 6, EPC1 to EPC6: 7 STALL, 5 ISO, 4 EP_EN, 3..0 the bus endpoint number.
 // The definitions that the contracts cite are in specs/.
+#![tactic(auto)]
+
 ghost use Rattle.std.specs.Prelude.{◌≡◌, ◌≤◌};
 ghost use Rattle.epc.specs.Bits.{bit_of};
 ghost use Rattle.epc.specs.Epc.{reset_epc, epc_of, epc_value, takes};
 
 use event::BusEndpoint;
 
-#[derive(Drop)]
+#[derive(Clone, Copy)]
 pub struct Epc {
     pub stall: bool,
     pub iso: bool,

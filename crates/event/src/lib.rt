@@ -1,14 +1,16 @@
 // The events that the chip takes one at a time, and the ranges of their fields.
 // The definitions that the contracts cite are in specs/.
+#![tactic(auto)]
+
 ghost use Rattle.std.specs.Prelude.{◌≡◌, ◌&&◌, leb};
 ghost use Rattle.event.specs.Event.{in_range};
 
 // A bus endpoint number, 0 to 15, as tokens and the EPC registers have it.
-#[derive(Drop)]
+#[derive(Clone, Copy)]
 pub struct BusEndpoint(pub u8);
 
 // One event: a register access or a bus event. A data event's count is the length of the payload that comes beside it.
-#[derive(Drop)]
+#[derive(Clone, Copy)]
 pub enum Event {
     // register
     Read(u8),

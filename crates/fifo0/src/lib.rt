@@ -1,5 +1,7 @@
 // FIFO0, which endpoint 0 both sends from and receives into: 8 bytes. They stand in the lent memory.
 // Every function takes any value and asks nothing of its caller. The definitions that the contracts cite are in specs/.
+#![tactic(auto)]
+
 ghost use Rattle.std.specs.Prelude.{◌≡◌};
 ghost use Rattle.fifo0.specs.Control.{reset0, rcount, Put0, take0, fits0, Fill0, spend0};
 
@@ -7,7 +9,7 @@ use window::{FifoNumber, Kind, Window};
 
 // Bytes to send or, where `received` is set, bytes received; `last` is the byte that RXD0 gave last.
 // With no bytes `received` is clear.
-#[derive(Drop)]
+#[derive(Clone, Copy)]
 pub struct Fifo0 {
     pub read: u8,
     pub write: u8,
@@ -16,7 +18,7 @@ pub struct Fifo0 {
 }
 
 // What a read of RXD0 gives: the next FIFO, the byte, and whether it was taken by this read.
-#[derive(Drop)]
+#[derive(Clone, Copy)]
 pub struct Taken0 {
     pub fifo: Fifo0,
     pub value: u8,

@@ -1,5 +1,7 @@
 // Whether a whole state is well formed: document 01's conditions, and one value for every idle field.
 // The definitions that the contracts cite are in specs/.
+#![tactic(auto)]
+
 ghost use Rattle.std.specs.Prelude.{◌≡◌};
 ghost use Rattle.formed.specs.Formed.{sends, receives, unheld, flush_beside, held_beside, pending_well, senders_well, receivers_well, registers_well, well_formed};
 

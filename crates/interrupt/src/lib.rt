@@ -1,5 +1,7 @@
 // The event registers TXEV, RXEV and NAKEV, the main event register MAEV and the interrupt line, worked out from the state in one place.
 // The definitions that the contracts cite are in specs/.
+#![tactic(auto)]
+
 ghost use Rattle.std.specs.Prelude.{◌≡◌, ◌+◌, ◌*◌, ◌≤◌};
 ghost use Rattle.epc.specs.Bits.{bit_of};
 ghost use Rattle.interrupt.specs.Interrupt.{shares, flag_of, reported, txev, rxev, nakev, maev, line};

@@ -1,5 +1,7 @@
 // The text of one event: its number, the answer and the interrupt line, or its refusal. Each line ends with one LF.
 // A text is written into a lent buffer from a place on, as far as the buffer goes. The definitions that the contracts cite are in specs/.
+#![tactic(auto)]
+
 ghost use Rattle.std.specs.Prelude.{◌≡◌, ◌++◌, ◌+◌, ◌≤◌};
 ghost use Rattle.epc.specs.Bits.{bit_of};
 ghost use Rattle.digits.specs.Text.{digit};

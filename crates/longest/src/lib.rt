@@ -1,1 +1,2 @@
 // The laws of a run's lines: no code.
+#![tactic(auto)]

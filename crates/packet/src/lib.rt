@@ -1,5 +1,7 @@
 // The bytes of a packet, which stay in the lent memory: written into a buffer as they are, or as hex.
 // What would stand past the buffer's end is not written. The definitions that the contracts cite are in specs/.
+#![tactic(auto)]
+
 ghost use Rattle.std.specs.Prelude.{◌≡◌, ◌+◌, length};
 ghost use Rattle.digits.specs.Text.{overlay};
 ghost use Rattle.packet.specs.Packet.{packet_bytes, hex_bytes, Copied};

@@ -1,1 +1,2 @@
 // The laws of text in a buffer: no code.
+#![tactic(auto)]

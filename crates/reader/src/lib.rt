@@ -1,5 +1,7 @@
 // A reader keeps the lent trace together with its place in it. The functions over it are thin: the work is done by those of `trace`.
 // The two with plain parameters, below, serve every other caller.
+#![tactic(auto)]
+
 ghost use Rattle.std.specs.Prelude.{◌≡◌};
 ghost use Rattle.trace.specs.Record.{read_at, stretch};
 ghost use Rattle.trace.specs.Meaning.{meaning};
@@ -7,7 +9,7 @@ ghost use Rattle.trace.specs.Meaning.{meaning};
 use trace::{Found, Span};
 
 // The lent trace, and a place in it.
-#[derive(Drop)]
+#[derive(Clone, Copy)]
 pub struct Reader<'a> {
     pub trace: &'a [u8],
     pub place: usize,

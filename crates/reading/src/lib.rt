@@ -1,1 +1,2 @@
 // The theorems of the reader of traces: no code.
+#![tactic(auto)]

@@ -1,5 +1,7 @@
 // Register reads: every address from 00 to 3F is decided, and any other too. What each register shows, and what the read clears.
 // The definitions that the contracts cite are in specs/.
+#![tactic(auto)]
+
 ghost use Rattle.std.specs.Prelude.{◌≡◌};
 ghost use Rattle.reads.specs.Read.{shown, far_of, mask_of, rxev_read, nakev_read, control_read, sender_read, receiver_read, endpoint_read, read_of};
 
@@ -7,7 +9,7 @@ use state::Chip;
 use window::FifoNumber;
 
 // What a read gives: the next state and the value.
-#[derive(Drop)]
+#[derive(Clone, Copy)]
 pub struct ReadOut {
     pub chip: Chip,
     pub value: u8,

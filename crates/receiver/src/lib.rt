@@ -1,5 +1,7 @@
 // An endpoint that receives, 2, 4 or 6: its FIFO's counters, EPC, RXS and RXC, and what they do at a register access and at data after
 // an OUT token. Bytes stand in the lent memory. The definitions that the contracts cite are in specs/.
+#![tactic(auto)]
+
 ghost use Rattle.std.specs.Prelude.{◌≡◌};
 ghost use Rattle.receiver.specs.Receiver.{reset_receiver, status_of, cleared, command_value, flushed, command, take_byte};
 ghost use Rattle.receiver.specs.Receiver.{judged, good, damaged, ReceivedData, stopped, well_formed};
@@ -12,7 +14,7 @@ use window::FifoNumber;
 
 // `err`, `setup`, `toggle`, `last` are RX_ERR, SETUP, TOGGLE and RX_LAST of RXS; `middle` is RXC 6..5, `ignore` IGN_SETUP, `enabled` RX_EN.
 // Nothing here sets SETUP, but a state may have it.
-#[derive(Drop)]
+#[derive(Clone, Copy)]
 pub struct Receiver {
     pub fifo: RxFifo,
     pub epc: Epc,
@@ -26,7 +28,7 @@ pub struct Receiver {
 }
 
 // What a read of RXD gives: the next state, the byte, and whether it was taken by this read.
-#[derive(Drop)]
+#[derive(Clone, Copy)]
 pub struct TakenByte {
     pub receiver: Receiver,
     pub value: u8,

@@ -1,5 +1,7 @@
 // The driver's receive service: what endpoint 2 received is taken, or flushed where it is damaged or a repeat.
 // A call on a state that is not well formed is refused with 5 and changes nothing. The definitions that the contracts cite are in specs/.
+#![tactic(auto)]
+
 ghost use Rattle.std.specs.Prelude.{◌≡◌, ◌+◌, ◌%◌, ◌≤◌};
 ghost use Rattle.driver.specs.Registers.{whole};
 ghost use Rattle.receiving.specs.Receive.{taken, all_taken, accepting, flushing, judged, receive_served, without, Receives, Fills, Drains, Shows};
@@ -9,7 +11,7 @@ use refusal::Refusal;
 use state::Chip;
 
 // What the call did, and the packet that it took: so many bytes, unused ones 0.
-#[derive(Drop)]
+#[derive(Clone, Copy)]
 pub struct Received {
     pub driven: Driven,
     pub count: usize,
@@ -17,7 +19,7 @@ pub struct Received {
 }
 
 // The bytes read from RXD, and the chip after them.
-#[derive(Drop)]
+#[derive(Clone, Copy)]
 struct Drained {
     chip: Chip,
     count: usize,

@@ -1,5 +1,7 @@
 // The running counters of a FIFO, and the bytes of its window that they point to.
 // Every function takes any value and asks nothing of its caller. The definitions that the contracts cite are in specs/.
+#![tactic(auto)]
+
 ghost use Rattle.std.specs.Prelude.{◌≡◌, ◌≤◌};
 ghost use Rattle.window.specs.Window.{size_of, start_of};
 ghost use Rattle.ring.specs.Ring.{level, free, next, place, byte_at, store, StoreAll};

@@ -5,13 +5,10 @@ use native.Mathlib.Omega.{arith}
 use mathlib.Core.Path.{◌≡◌, refl, sym, ◌∙◌}
 use mathlib.Core.Bool.{Bool, true, false, not, and-eq-true_iff}
 use mathlib.Core.List.{List, [], ◌∷◌}
-use mathlib.Core.Logic.{⊎_elim}
 use lib.ListN.{length}
 use lib.Dec.{leb, ltb}
 use borrow.Author.Tests.{le-ltb, leb-true, ltb-true}
-use types.Run.{OneOf}
-use denote.Enum.Declared.{tag_of}
-use Rattle.trace.specs.contracts.Found.{the_type}
+use Rattle.trace.specs.declared.Span.{Span}
 use Rattle.choice.specs.Choice.{pick}
 use Rattle.refusal.specs.declared.Refusal.{Refusal}
 use Rattle.refusal.specs.declared.Refusal.TheVariants as refusal
@@ -59,11 +56,12 @@ ends trace r₀ r l le = l.same ∙ run_ends l.turns trace r le
 
 module _ (trace : List ℕ) (r : Running) (before : r.spot.place < length trace) where
   -- what is no event ends a run
-  no_event : (turns : ℕ) (f : Found) → length trace ≤ r.spot.place + turns → OneOf (1 ∷ 2 ∷ []) (tag_of the_type f)
-      → meaning f ≡ read_at trace r.spot.place → run_for turns trace r ≡ ending (meaning f) r
+  no_event :
+      (turns : ℕ) (f : Found) → length trace ≤ r.spot.place + turns → ((x : Event) (span : Span) → f ≡ found.Record x span → ⊥) →
+      meaning f ≡ read_at trace r.spot.place → run_for turns trace r ≡ ending (meaning f) r
   unfolding run_for onward
   no_event zero f enough k e = absurd {0} (omega arith)
-  no_event (suc n) (found.Record x span) enough k e = absurd {0} (⊎_elim (λ h. omega arith) (λ h. omega arith) k)
+  no_event (suc n) (found.Record x span) enough k e = absurd {0} (k x span refl)
   no_event (suc n) found.End enough k e = rw (← e)
   no_event (suc n) (found.Refused x at) enough k e = rw (← e)
 
@@ -84,7 +82,7 @@ module _ (trace : List ℕ) (r : Running) (before : r.spot.place < length trace)
       let past : _ = next_past trace r.spot.place e from next h in
       record { turns = n; enough = omega arith; same = rw (h, room) at same }
 
-  pub stops : (r₀ : Running) (f : Found) → Left trace r₀ r → OneOf (1 ∷ 2 ∷ []) (tag_of the_type f) → meaning f ≡ read_at trace r.spot.place
+  pub stops : (r₀ : Running) (f : Found) → Left trace r₀ r → ((x : Event) (span : Span) → f ≡ found.Record x span → ⊥) → meaning f ≡ read_at trace r.spot.place
       → run_for (length trace) trace r₀ ≡ ending (meaning f) r
   stops r₀ f l k e = l.same ∙ no_event l.turns f l.enough k e
 
@@ -95,15 +93,6 @@ module _ (trace : List ℕ) (r : Running) (before : r.spot.place < length trace)
   pub goes_on : (r₀ : Running) (e : Event) (from next : ℕ) → Left trace r₀ r → read_at trace r.spot.place ≡ event e from next → roomy r ≡ true
       → Left trace r₀ (printing (line_of e (stretch trace from next) r.spot) (did e (stretch trace from next) next r.spot) r)
   goes_on r₀ e from next l h room = one_event r₀ l.turns e from next l.enough h room l.same
-
--- a test that is turned round
-pub untaken : (b : Bool) → not b ≡ true → b ≡ false
-untaken false e = refl
-untaken true e = sym e
-
-pub taken : (b : Bool) → not b ≡ false → b ≡ true
-taken true e = refl
-taken false e = sym e
 
 -- a refusal's line fits where there is room
 number_small : (r : Refusal) → number_of r ≤ 8

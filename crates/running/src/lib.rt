@@ -1,5 +1,7 @@
 // Runs a trace from any state and place for as many records as fit the caller's buffer, one line each.
 // A line that does not fit leaves everything as it is; a call with room for it goes on. The definitions that the contract cites are in specs/.
+#![tactic(auto)]
+
 ghost use Rattle.std.specs.Prelude.{◌≡◌, ◌≤◌, length, ltb};
 ghost use Rattle.refusal.specs.Refusal.{number_of};
 ghost use Rattle.trace.specs.Record.{refuse};
@@ -13,7 +15,7 @@ use state::Chip;
 use trace::Found;
 
 // Why a run stops: the end of the trace, a refusal with its place, or no room in the buffer for a line.
-#[derive(Drop)]
+#[derive(Clone, Copy)]
 pub enum Stop {
     End,
     Refused(Refusal, usize),
@@ -21,7 +23,7 @@ pub enum Stop {
 }
 
 // Where a run stops: the chip, the place in the trace, the next event's number, the bytes written, and why.
-#[derive(Drop)]
+#[derive(Clone, Copy)]
 pub struct Ran {
     pub chip: Chip,
     pub place: usize,

@@ -1,12 +1,14 @@
 // RXFIFO1 to 3, which endpoints 2, 4 and 6 receive into: 64 bytes each. The bytes stand in the lent memory.
 // Every function takes any value and asks nothing of its caller. The definitions that the contracts cite are in specs/.
+#![tactic(auto)]
+
 ghost use Rattle.std.specs.Prelude.{◌≡◌};
 ghost use Rattle.rxfifo.specs.Receive.{reset_rx, take_rx, fits_rx, FillRx};
 
 use window::{FifoNumber, Kind, Window};
 
 // `last` is the byte that RXD gave last.
-#[derive(Drop)]
+#[derive(Clone, Copy)]
 pub struct RxFifo {
     pub read: u8,
     pub write: u8,
@@ -14,7 +16,7 @@ pub struct RxFifo {
 }
 
 // What a read of RXD gives: the next FIFO, the byte, and whether it was taken by this read.
-#[derive(Drop)]
+#[derive(Clone, Copy)]
 pub struct TakenRx {
     pub fifo: RxFifo,
     pub value: u8,

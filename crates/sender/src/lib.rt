@@ -1,5 +1,7 @@
 // An endpoint that sends, 1, 3 or 5: its FIFO's counters, EPC, TXS and TXC, and what they do at a register access, at an IN token and
 // at the end of the wait for a handshake. Bytes stand in the lent memory. The definitions that the contracts cite are in specs/.
+#![tactic(auto)]
+
 ghost use Rattle.std.specs.Prelude.{◌/◌, ◌≡◌, ◌&&◌, true, false};
 ghost use Rattle.epc.specs.Bits.{has, odd};
 ghost use Rattle.txfifo.specs.Transmit.{mark_tx};
@@ -12,7 +14,7 @@ use txfifo::TxFifo;
 use window::FifoNumber;
 
 // `urun`, `ack`, `done` are TX_URUN, ACK_STAT and TX_DONE of TXS; `high` is TXC 7..5, `toggle`, `last`, `enabled` are TXC 2..0.
-#[derive(Drop)]
+#[derive(Clone, Copy)]
 pub struct Sender {
     pub fifo: TxFifo,
     pub epc: Epc,
@@ -26,7 +28,7 @@ pub struct Sender {
 }
 
 // What an IN token finds: NAK, STALL, a broken packet, or DATA0 or DATA1 by TOGGLE.
-#[derive(Drop)]
+#[derive(Clone, Copy)]
 pub enum Sent {
     Nak,
     Stall,

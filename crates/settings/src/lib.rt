@@ -1,5 +1,7 @@
 // Writes of the registers that belong to no endpoint: MCNTRL, FAR, NFSR and the masks; and who awaits a handshake.
 // The definitions that the contracts cite are in specs/.
+#![tactic(auto)]
+
 ghost use Rattle.std.specs.Prelude.{◌≡◌};
 ghost use Rattle.settings.specs.Settings.{operational, awaits, held_byte, stop_sender, stop_receiver, stop_zero, stop, far_write, nfsr_write, mask_write, Reset};
 

@@ -1,5 +1,7 @@
 // Which endpoint's register an address from 28 to 3F names, and which endpoint sends from a FIFO.
 // The definitions that the contracts cite are in specs/.
+#![tactic(auto)]
+
 ghost use Rattle.std.specs.Prelude.{◌≡◌};
 ghost use Rattle.slot.specs.Slot.{slot_of, sending};
 
@@ -7,7 +9,7 @@ use state::Endpoint;
 use window::FifoNumber;
 
 // Which endpoint's register an address from 28 to 3F names: its FIFO, whether it sends, and which of its four registers.
-#[derive(Drop)]
+#[derive(Clone, Copy)]
 pub struct Slot {
     pub number: FifoNumber,
     pub sends: bool,

@@ -1,5 +1,7 @@
 // The chip's state but for the FIFOs' bytes: seven endpoints, FAR, NFSR, the masks, the events that a read clears, and what is awaited.
 // The bytes stand in memory that the caller lends. The definitions that the contracts cite are in specs/.
+#![tactic(auto)]
+
 ghost use Rattle.std.specs.Prelude.{◌≡◌};
 ghost use Rattle.state.specs.State.{reset_chip, nothing, sender_at, receiver_at, fifo_of};
 ghost use Rattle.state.specs.Set.{with_sender, with_receiver, overran, nakked_in, nakked_out};
@@ -10,11 +12,11 @@ use sender::Sender;
 use window::FifoNumber;
 
 // An endpoint's place, 0 to 6.
-#[derive(Drop)]
+#[derive(Clone, Copy)]
 pub struct Endpoint(pub u8);
 
 // What is awaited: a handshake (0, 1, 3, 5), data after an OUT (0, 2, 4, 6), or data after a SETUP (0).
-#[derive(Drop)]
+#[derive(Clone, Copy)]
 pub enum Wait {
     Nothing,
     Handshake(Endpoint),
@@ -23,7 +25,7 @@ pub enum Wait {
 }
 
 // The wait, with the command byte (if `holds`) and the RXC0 flush that are held until it ends.
-#[derive(Drop)]
+#[derive(Clone, Copy)]
 pub struct Pending {
     pub wait: Wait,
     pub holds: bool,
@@ -32,7 +34,7 @@ pub struct Pending {
 }
 
 // MAMSK, and the masks of TXEV, RXEV and NAKEV.
-#[derive(Drop)]
+#[derive(Clone, Copy)]
 pub struct Masks {
     pub main: u8,
     pub tx: u8,
@@ -41,14 +43,14 @@ pub struct Masks {
 }
 
 // RXEV 7..4 and NAKEV, by FIFO number: overruns, NAKs to IN, NAKs to OUT.
-#[derive(Drop)]
+#[derive(Clone, Copy)]
 pub struct Events {
     pub over: [bool; 4],
     pub nakin: [bool; 4],
     pub nakout: [bool; 4],
 }
 
-#[derive(Drop)]
+#[derive(Clone, Copy)]
 pub struct Chip {
     pub control: Control,
     pub senders: [Sender; 3],

@@ -1,5 +1,7 @@
 // One event on the whole chip: a register access, or a bus event, which in the operational state first ends what was awaited.
 // Every state and every event has its answer. The definitions that the contracts cite are in specs/.
+#![tactic(auto)]
+
 ghost use Rattle.std.specs.Prelude.{◌≡◌};
 ghost use Rattle.answer.specs.Answer.{Gives};
 ghost use Rattle.step.specs.Step.{quiet, read_step, write_step, in_step, out_step, setup_step, data_step, data_step_bytes, end_step, step_of, step_bytes};

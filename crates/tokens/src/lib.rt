@@ -1,5 +1,7 @@
 // Who takes a token: the endpoints that match are the bits of a mask, and its lowest set bit is the winner.
 // The definitions that the contracts cite are in specs/.
+#![tactic(auto)]
+
 ghost use Rattle.std.specs.Prelude.{◌≡◌};
 ghost use Rattle.tokens.specs.Tokens.{own, zero_takes, sender_takes, receiver_takes, in_mask, out_mask, winner};
 
@@ -8,7 +10,7 @@ use state::{Chip, Endpoint};
 use window::FifoNumber;
 
 // Nobody, or the endpoint that takes the token.
-#[derive(Drop)]
+#[derive(Clone, Copy)]
 pub enum Match {
     Nobody,
     Takes(Endpoint),

@@ -7,26 +7,26 @@ ghost use Rattle.trace.specs.Meaning.{taken_of, one_of, two_of, three_of};
 use refusal::Refusal;
 
 // A number with the place after it.
-#[derive(Drop)]
+#[derive(Clone, Copy)]
 pub enum Taken {
     Value(u16, usize),
     Refused(Refusal),
 }
 
 // One, two and three fields in range, with the place after them.
-#[derive(Drop)]
+#[derive(Clone, Copy)]
 pub enum One {
     Value(u8, usize),
     Refused(Refusal),
 }
 
-#[derive(Drop)]
+#[derive(Clone, Copy)]
 pub enum Two {
     Values(u8, u8, usize),
     Refused(Refusal),
 }
 
-#[derive(Drop)]
+#[derive(Clone, Copy)]
 pub enum Three {
     Values(u8, u8, u8, usize),
     Refused(Refusal),

@@ -1,5 +1,7 @@
 // The reader of traces: what record stands at a place of a trace, or which refusal. It keeps nothing and takes any bytes at any place.
 // The definitions that the contracts cite are in specs/.
+#![tactic(auto)]
+
 ghost use Rattle.std.specs.Prelude.{◌≡◌, [], ◌∷◌};
 ghost use Rattle.event.specs.Event.{event_of};
 ghost use Rattle.trace.specs.Number.{value};
@@ -13,14 +15,14 @@ use refusal::Refusal;
 mod fields;
 
 // Where a record's payload starts, and the place past the record. Without a payload the two are one.
-#[derive(Drop)]
+#[derive(Clone, Copy)]
 pub struct Span {
     pub payload: usize,
     pub next: usize,
 }
 
 // What stands at a place. A refusal comes with the place of the record's start.
-#[derive(Drop)]
+#[derive(Clone, Copy)]
 pub enum Found {
     Record(Event, Span),
     End,
@@ -28,7 +30,7 @@ pub enum Found {
 }
 
 // The three tokens.
-#[derive(Drop)]
+#[derive(Clone, Copy)]
 enum Token {
     In,
     Out,

@@ -1,12 +1,14 @@
 // TXFIFO1 to 3, which endpoints 1, 3 and 5 send from: 64 bytes each, with a saved read pointer. The bytes stand in the lent memory.
 // Every function takes any value and asks nothing of its caller. The definitions that the contracts cite are in specs/.
+#![tactic(auto)]
+
 ghost use Rattle.std.specs.Prelude.{◌≡◌};
 ghost use Rattle.txfifo.specs.Transmit.{reset_tx, PutTx, spend_tx, refill_tx, mark_tx};
 
 use window::{FifoNumber, Kind, Window};
 
 // `saved` is the read pointer that a refill goes back to.
-#[derive(Drop)]
+#[derive(Clone, Copy)]
 pub struct TxFifo {
     pub read: u8,
     pub write: u8,

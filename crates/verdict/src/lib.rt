@@ -1,10 +1,12 @@
 // What data after a token finds at an endpoint that receives, 0 as well as 2, 4, 6.
 // The definitions that the contracts cite are in specs/.
+#![tactic(auto)]
+
 ghost use Rattle.std.specs.Prelude.{◌≡◌};
 ghost use Rattle.verdict.specs.Verdict.{heard, is_ack};
 
 // Nothing, NAK with its NAKEV bit, STALL, NAK with the overrun bit and without its NAKEV bit, ACK.
-#[derive(Drop)]
+#[derive(Clone, Copy)]
 pub enum Judged {
     Silence,
     Nak,

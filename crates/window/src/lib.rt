@@ -1,14 +1,16 @@
 // The windows of the lent memory in which the FIFOs' bytes stand: 392 bytes, FIFO0 first, then TXFIFO1 to 3, then RXFIFO1 to 3.
 // Every function takes any value and asks nothing of its caller. The definitions that the contracts cite are in specs/.
+#![tactic(auto)]
+
 ghost use Rattle.std.specs.Prelude.{◌≡◌, ◌+◌, ◌≤◌};
 ghost use Rattle.window.specs.Window.{index_of, size_of, start_of};
 
 // A FIFO's number in the data sheet: 0 for FIFO0, 1 to 3 for TXFIFO1 to 3 and for RXFIFO1 to 3.
-#[derive(Drop)]
+#[derive(Clone, Copy)]
 pub struct FifoNumber(pub u8);
 
 // The three kinds of FIFO: FIFO0 of the control endpoint, TXFIFO1 to 3, RXFIFO1 to 3.
-#[derive(Drop)]
+#[derive(Clone, Copy)]
 pub enum Kind {
     Control,
     Transmit,
@@ -16,7 +18,7 @@ pub enum Kind {
 }
 
 // The stretch of the lent memory in which a FIFO's bytes stand.
-#[derive(Drop)]
+#[derive(Clone, Copy)]
 pub struct Window {
     pub kind: Kind,
     pub number: FifoNumber,

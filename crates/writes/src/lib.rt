@@ -1,5 +1,7 @@
 // Register writes: every address from 00 to 3F is decided, and any other too. Command bytes are held while their endpoint awaits a handshake.
 // The definitions that the contracts cite are in specs/.
+#![tactic(auto)]
+
 ghost use Rattle.std.specs.Prelude.{◌≡◌};
 ghost use Rattle.writes.specs.Write.{control_command, receive_command, sender_command, ControlWrite, SenderWrite, EndpointWrite, receiver_write, epc_write0, ControlPut, WriteTo};
 

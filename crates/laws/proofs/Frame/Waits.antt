@@ -20,16 +20,16 @@ module _ (p : Place) (c : Chip) where
   unfolding ended_zero idled
   ended_zero_lem acked other = state_pending _ p _ ∙ state_control c p _ other
 
-  ended_at : (e : Endpoint) (acked : Bool) → at (sending_place e) p ≡ false → state_at p (ended_at e acked c) ≡ state_at p c
+  ended_at_lem : (e : Endpoint) (acked : Bool) → at (sending_place e) p ≡ false → state_at p (ended_at e acked c) ≡ state_at p c
   unfolding ended_at ended_sender idled
-  ended_at e acked other =
+  ended_at_lem e acked other =
       by_test (λ (x : Chip). state_at p x ≡ state_at p c) (eqb e.0 0)
       (λ t. ended_zero_lem acked (rw (sending_is_zero e t) at other))
       (λ t. state_pending _ p _ ∙ state_sender c p (fifo_of e) _ (rw (sending_is_sends e t) at other))
 
   ended_state : (w : Wait) (acked : Bool) → is_owner (awaited_of w) p ≡ false → state_at p (ended_in w acked c) ≡ state_at p c
   ended_state Nothing acked other = refl
-  ended_state (Handshake e) acked other = ended_at e acked other
+  ended_state (Handshake e) acked other = ended_at_lem e acked other
   ended_state (Data e) acked other = refl
   ended_state Setup acked other = refl
 

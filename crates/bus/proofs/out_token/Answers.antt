@@ -1,0 +1,10 @@
+-- `out_token` meets its contract: each arm is the case of the definition.
+-- Assumes nothing.
+use mathlib.Core.Path.{sym, ◌∙◌}
+use Rattle.bus.proofs.out_token.Goals as goal
+
+pub returns-in_default : goal.returns-in_default
+returns-in_default c = rw (sym c.out_mask.ensures, sym c.winner-m.ensures ∙ c.in_default.is) c.silent.ensures
+
+pub returns : goal.returns
+returns c = rw (sym c.out_mask.ensures, sym c.winner-m.ensures ∙ c.in-Takes.is, sym c.out_at.ensures) c.silent-2.ensures

@@ -1,0 +1,13 @@
+-- `hex_digit` meets its contract.
+-- Assumes nothing.
+use borrow.Author.Tests.{lt-ltb, le-ltb}
+use Rattle.choice.specs.Choice.{pick}
+use Rattle.digits.proofs.hex_digit.Goals as goal
+
+pub returns-then-d-lt10 : goal.returns-then-d-lt10
+unfolding pick
+returns-then-d-lt10 c = rw (lt-ltb _ 10 c.if-d-lt10.true)
+
+pub returns-else-d-lt10 : goal.returns-else-d-lt10
+unfolding pick
+returns-else-d-lt10 c = rw (le-ltb _ 10 c.if-d-lt10.false)

@@ -1,0 +1,14 @@
+-- `ended_at` meets its contract: the test is the definition's own.
+-- Assumes nothing.
+use Rattle.ends.specs.Ends.{ended_at}
+use Rattle.choice.specs.Choice.{pick}
+use borrow.Author.Tests.{eq-eqb, ne_eqb}
+use Rattle.ends.proofs.ended_at.Goals as goal
+
+pub returns-then-e-eq0 : goal.returns-then-e-eq0
+unfolding ended_at pick
+returns-then-e-eq0 c = rw (eq-eqb _ _ c.if-e-eq0.true) c.ended_zero.ensures
+
+pub returns : goal.returns
+unfolding ended_at pick
+returns c = rw (ne_eqb _ _ c.if-e-eq0.false, c.ended_sender.ensures, c.fifo.ensures)

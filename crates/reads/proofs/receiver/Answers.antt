@@ -1,0 +1,26 @@
+-- `receiver` meets its contract: each arm rewrites with its register.
+-- Assumes nothing.
+use Rattle.reads.specs.Read.{receiver_read}
+use borrow.Author.Tests.{ne_eqb}
+use Rattle.choice.specs.Choice.{pick}
+use Rattle.reads.proofs.receiver.Goals as goal
+
+pub returns-in-0 : goal.returns-in-0
+unfolding receiver_read pick
+returns-in-0 c = rw (c.shown.ensures, c.value.ensures, c.in-0.is, c.receiver-s.ensures)
+
+pub returns-in-1 : goal.returns-in-1
+unfolding receiver_read pick
+returns-in-1 c = rw (c.shown-in-1.ensures, c.with_receiver-c.ensures, c.take-t.ensures, c.in-1.is, c.receiver-s.ensures)
+
+pub returns-in-2 : goal.returns-in-2
+unfolding receiver_read pick
+returns-in-2 c = rw (c.shown-in-2.ensures, c.with_receiver-c-in-2.ensures, c.cleared.ensures, c.status-value.ensures, c.in-2.is, c.receiver-s.ensures)
+
+pub returns-in-3 : goal.returns-in-3
+unfolding receiver_read pick
+returns-in-3 c = rw (c.shown-in-3.ensures, c.command_value.ensures, c.in-3.is, c.receiver-s.ensures)
+
+pub returns-in_default : goal.returns-in_default
+unfolding receiver_read pick
+returns-in_default c = simp (c.shown-in_default.ensures, ne_eqb _ _ c.in_default.in_default-own.rest.1, ne_eqb _ _ c.in_default.in_default-own.rest.0.1, ne_eqb _ _ c.in_default.in_default-own.rest.0.0.1, ne_eqb _ _ c.in_default.in_default-own.rest.0.0.0.1)

@@ -1,0 +1,13 @@
+-- `sender_takes` meets its contract: the tests are the definition's own.
+-- Assumes nothing.
+use Rattle.tokens.specs.Tokens.{sender_takes}
+use mathlib.Core.Path.{sym, ◌∙◌}
+use Rattle.tokens.proofs.sender_takes.Goals as goal
+
+pub returns-then-own : goal.returns-then-own
+unfolding sender_takes
+returns-then-own c = rw (sym c.own.ensures ∙ c.if-own.true, c.takes.ensures, c.sender-s.ensures)
+
+pub returns : goal.returns
+unfolding sender_takes
+returns c = rw (sym c.own.ensures ∙ c.if-own.false)
