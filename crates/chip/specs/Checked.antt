@@ -15,7 +15,7 @@ use Rattle.chip.specs.declared.Reply.{Reply}
 use Rattle.chip.specs.declared.Reply.TheVariants.{Answered, Refused}
 use Rattle.chip.specs.declared.Stepped.{Stepped}
 
--- 01's number where an event is refused, 0 where it is answered; the answer's own word is `answerText`
+-- 01's number where an event is refused, 0 where it is answered; the answer's own word is `answer_text`
 abbrev pub refused_with : Reply → ℕ
 refused_with (Answered a) = 0
 refused_with (Refused why) = number_of why

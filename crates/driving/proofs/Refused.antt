@@ -18,7 +18,7 @@ use Rattle.driver.specs.Driver.{refused_with, Call, call, fresh, startable, star
 use Rattle.driver.proofs.Cases.{offer_cases}
 use Rattle.receiving.specs.Receive.{flushing, accepting, judged, receive_served}
 
--- ---- by which number; an offer's law is `offer-number` of the driver
+-- ---- by which number; an offer's law is `offer_number` of the driver
 
 abbrev Number : ℕ → Call → Type 0
 Number n x = refused_with x.did ≡ n
