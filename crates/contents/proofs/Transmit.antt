@@ -3,9 +3,9 @@
 -- Assumes nothing.
 use Prim.Native.Nat.{ℕ, suc, ◌+◌, ◌%◌, ◌≤◌, ◌<◌}
 use native.Mathlib.Omega.{arith}
-use mathlib.Core.Path.{◌≡◌, refl, ◌∙◌}
+use mathlib.Core.Path.{◌≡◌, refl}
 use mathlib.Core.Bool.{true, false}
-use mathlib.Core.List.{List, [], ◌∷◌, ◌++◌, append-nil}
+use mathlib.Core.List.{List, [], ◌∷◌, ◌++◌}
 use lib.ListN.{length}
 use borrow.Author.Tests.{lt-leb, le-leb}
 use Rattle.choice.specs.Choice.{pick}
@@ -94,13 +94,6 @@ module _
       let small : level f.read ((f.write + length bs) % 256) ≤ 64 =
       omega (arith, level_adds f.read f.write c (length bs) (omega arith)) in
       rw (e.0, e.1, marked, le-leb _ _ small) stretch_appends
-
--- With nothing put since, the same list comes back.
-pub refill_tx_returns : (n : FifoNumber) (f : TxFifo) (m : List ℕ)
-    → Counters f.read f.write → length m ≡ 392 → level f.read f.write ≤ 64 → f.saved ≡ f.read
-    → tx_contents n (refill_tx (spend_tx f)) m ≡ tx_contents n f m
-unfolding put_all_tx put_all_tx_bytes
-refill_tx_returns n f m c l le marked = refill_tx_restores n [] f m c l (omega arith) marked ∙ append-nil (tx_contents n f m)
 
 -- Where write is over 64 from saved, a refill does nothing.
 pub refill_tx_ignored : (f : TxFifo) → 64 < level f.saved f.write → refill_tx f ≡ f

@@ -17,13 +17,7 @@ use Rattle.window.specs.declared.Kind.TheVariants.{Control, Transmit, Receive}
 use Rattle.window.specs.Window.{size_of, index_of, start_of, window}
 use Rattle.ring.specs.Ring.{next, level, place, byte_at, store, store_all, bytes_from, contents}
 use Rattle.contents.proofs.Ring.{Size, place_small, store_length, store_all_length}
-
--- a FIFO's index
-pub index_small : (n : FifoNumber) → index_of n ≤ 2
-unfolding index_of
-index_small n =
-    by_test (λ (i : ℕ). i ≤ 2) _ (λ _. omega arith) (λ _.
-    by_test (λ (i : ℕ). i ≤ 2) _ (λ _. omega arith) (λ _. omega arith))
+use Rattle.contents.proofs.Inside.{index_small, window_inside}
 
 -- the numbers 1 to 3 stand in their order
 index_of_lem : (n : FifoNumber) → 1 ≤ n.0 → n.0 ≤ 3 → index_of n + 1 ≡ n.0
@@ -32,12 +26,6 @@ index_of_lem n low high =
     by_test (λ (i : ℕ). i + 1 ≡ n.0) _ (λ e. omega (arith, eqb-true n.0 1 e)) (λ no1.
     by_test (λ (i : ℕ). i + 1 ≡ n.0) _ (λ e. omega (arith, eqb-true n.0 2 e)) (λ no2.
     omega (arith, eqb-false n.0 1 no1, eqb-false n.0 2 no2)))
-
--- every window lies in the 392 bytes
-pub window_inside : (k : Kind) (n : FifoNumber) → start_of k n + size_of k ≤ 392
-window_inside Control n = omega arith
-window_inside Transmit n = omega (arith, index_small n)
-window_inside Receive n = omega (arith, index_small n)
 
 -- and so in a memory of as many
 pub window_fits : (k : Kind) (n : FifoNumber) (m : List ℕ) → length m ≡ 392 → start_of k n + size_of k ≤ length m

@@ -2,6 +2,8 @@
 pub mod Sides
 pub mod Meets
 pub mod Reserved
+pub mod Refuted
 pub mod Breaks
 pub mod Needed
 pub mod Nak
+pub mod Never

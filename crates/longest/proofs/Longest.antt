@@ -1,4 +1,4 @@
--- No line is longer than 158 bytes, and one line is as long.
+-- No line is longer than 158 bytes.
 -- Assumes nothing.
 use Prim.Native.Nat.{ℕ, ◌≤◌, ◌<◌}
 use native.Mathlib.Omega.{arith}
@@ -11,7 +11,7 @@ use Rattle.ring.specs.Ring.{bytes_from}
 use Rattle.answer.specs.declared.Packet.{Packet}
 use Rattle.answer.specs.declared.Answer.{Answer}
 use Rattle.answer.specs.declared.Answer.TheVariants.{Data0}
-use Rattle.printed.proofs.Decimal.{decimal_length, decimal_length_5, decimal_reaches}
+use Rattle.printed.proofs.Decimal.{decimal_length, decimal_length_5}
 use Rattle.packet.specs.Packet.{packet_bytes, hex_bytes}
 use Rattle.lines.specs.Line.{payload_text, answer_text, line_text, refusal_text, longest}
 use Rattle.lines.proofs.Lengths.{answer_length, line_length, refusal_length}
@@ -28,17 +28,6 @@ refusal_longest n k p h small near =
 abbrev pub all64 : Packet
 all64 = record { window = record { kind = Transmit; number = record { 0 = 1 } }; from = 0; count = 64 }
 
-whole_answer : (m : List ℕ) → length (answer_text (Data0 all64) m) ≡ 134
+pub whole_answer : (m : List ℕ) → length (answer_text (Data0 all64) m) ≡ 134
 unfolding answer_text payload_text packet_bytes hex_bytes bytes_from
 whole_answer m = refl
-
--- The last event of all, with all 64 bytes of a FIFO, takes a line of 158 bytes, whatever they are.
-pub longest_met : (m : List ℕ) (line : Bool) → length (line_text 18446744073709551615 (Data0 all64) m line) ≡ longest
-longest_met m line =
-    omega (
-      arith,
-      line_length 18446744073709551615 (Data0 all64) m line,
-      decimal_length 18446744073709551615 (omega arith),
-      decimal_reaches 19 18446744073709551615 (omega arith),
-      whole_answer m,
-    )

@@ -1,12 +1,6 @@
 -- Answers whose contract names them by 01's numbers: no two answers of the reader have one meaning, no two stops of a run one reason.
 -- Assumes nothing.
-use Prim.Native.Nat.{ℕ}
 use mathlib.Core.Path.{◌≡◌, refl, sym, ap, ◌∙◌}
-use lib.Dec.{eqb}
-use Rattle.choice.specs.Choice.{pick}
-use Rattle.refusal.specs.Refusal.{number_of}
-use Rattle.refusal.specs.declared.Refusal.{Refusal}
-use Rattle.refusal.specs.declared.Refusal.TheVariants.{Cut, NotShortest, NoKind, OutOfRange, NotWellFormed, OfferTooLong, PacketHeld, InputTooLong}
 use Rattle.trace.specs.declared.Found.{Found}
 use Rattle.trace.specs.declared.Found.TheVariants as found
 use Rattle.trace.specs.Record.{Reading, event, end, refuse}
@@ -14,29 +8,7 @@ use Rattle.trace.specs.Meaning.{meaning}
 use Rattle.running.specs.declared.Stop.{Stop}
 use Rattle.running.specs.declared.Stop.TheVariants as stop
 use Rattle.running.specs.Run.{Reason, ended, refused, full, reason_of}
-
--- the refusal of a number
-refusal_of : ℕ → Refusal
-refusal_of k =
-    pick (eqb k 1) Cut
-    (pick (eqb k 2) NotShortest
-    (pick (eqb k 3) NoKind
-    (pick (eqb k 4) OutOfRange
-    (pick (eqb k 5) NotWellFormed
-    (pick (eqb k 6) OfferTooLong
-    (pick (eqb k 7) PacketHeld
-    InputTooLong))))))
-
-refusal_of_number : (r : Refusal) → refusal_of (number_of r) ≡ r
-unfolding refusal_of pick
-refusal_of_number Cut = refl
-refusal_of_number NotShortest = refl
-refusal_of_number NoKind = refl
-refusal_of_number OutOfRange = refl
-refusal_of_number NotWellFormed = refl
-refusal_of_number OfferTooLong = refl
-refusal_of_number PacketHeld = refl
-refusal_of_number InputTooLong = refl
+use Rattle.once.proofs.Refusals.{refusal_of, refusal_of_number}
 
 -- the answer of a meaning
 answer_of : Reading → Found

@@ -7,9 +7,7 @@ use Rattle.refusal.proofs.Refusal.number.Reads as refusal-Refusal-number
 use Rattle.event.proofs.BusEndpoint.within.Reads as event-BusEndpoint-within
 use Rattle.event.proofs.in_range.Reads as event-in_range
 use Rattle.trace.proofs.read.Reads as trace-read
-use Rattle.trace.proofs.payload.Reads as trace-payload
 use Rattle.reader.proofs.read.Reads as reader-read
-use Rattle.reader.proofs.payload.Reads as reader-payload
 use Rattle.commands.proofs.read.Reads as commands-read
 
 pub refusal-Refusal-number-once : Once refusal-Refusal-number.Post (λ κ r s. r)
@@ -24,14 +22,8 @@ event-in_range-once = once (λ κ a r s p. p)
 pub trace-read-once : Once trace-read.Post (λ κ r s. r)
 trace-read-once κ a r r' s s' p q = meaning_injective r r' (p ∙ sym q)
 
-pub trace-payload-once : Once trace-payload.Post (λ κ r s. r.now)
-trace-payload-once = once (λ κ a r s p. p)
-
 pub commands-read-once : Once commands-read.Post (λ κ r s. r)
 commands-read-once = once (λ κ a r s p. p)
 
 pub reader-read-once : Once reader-read.Post (λ κ r s. r)
 reader-read-once κ a r r' s s' p q = meaning_injective r r' (p ∙ sym q)
-
-pub reader-payload-once : Once reader-payload.Post (λ κ r s. r.now)
-reader-payload-once = once (λ κ a r s p. p)

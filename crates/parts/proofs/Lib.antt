@@ -4,5 +4,6 @@ pub mod Parts
 pub mod Sound
 pub mod Leaves
 pub mod Call
+pub mod Rooms
 pub mod Whole
 pub mod Program

@@ -16,14 +16,10 @@ use Rattle.running.specs.Run.{Reason, ended, refused, full, Running, stopping, r
 use Rattle.parts.specs.Loop.{rest, written, called, told, Calls, followed, calls, reused}
 use Rattle.parts.proofs.Sound.{start_sound}
 use Rattle.parts.proofs.Call.{output_at, Short, Ready, call_leaves, call_ready, run_outputs, call_moves}
+use Rattle.parts.proofs.Rooms.{Rooms, none, more}
 
 pub ready_start : Ready start
 ready_start = record { sound = start_sound; place = omega arith; number = omega arith }
-
--- every buffer has room for a line
-pub data Rooms : List (List ℕ) → Type 0 where
-  none : Rooms []
-  more : {out : List ℕ} {outs : List (List ℕ)} → longest ≤ length out → Rooms outs → Rooms (out ∷ outs)
 
 module _ (trace : List ℕ) (short : Short trace) where
   -- The calls together: what they wrote, followed by the output from where the last one stopped if it stopped as full.

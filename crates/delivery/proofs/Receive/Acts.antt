@@ -41,8 +41,10 @@ use Rattle.delivery.proofs.Standing.Reaches.{epc_unstalled, pipes_range}
 use Rattle.delivery.proofs.Receive.Storing.{Shut, Shape}
 use Rattle.delivery.proofs.Receive.Alike.{rx, Alike, in_alike, setup_alike, ack_alike, timeout_alike, data_alike, out_alike, access_alike, sending_alike}
 use Rattle.delivery.proofs.Receive.Deliver.{none_answer, good_stored, good_acked, bad_shut, bad_silent, shut_silent, shut_alike}
-use Rattle.delivery.proofs.Receive.Service.{Served, service_served}
-use Rattle.delivery.proofs.Receive.Flow.{Flows, Flow, moved, host_flows, goes_keeps, in_keeps, up_flows, unacked, stored_flows, damaged_flows, served_flows}
+use Rattle.delivery.proofs.Receive.Service.{Served}
+use Rattle.delivery.proofs.Receive.Judged.{service_served}
+use Rattle.delivery.proofs.Receive.Flow.{Flows, Flow, moved, host_flows, goes_keeps, in_keeps, unacked, stored_flows, damaged_flows, served_flows}
+use Rattle.delivery.proofs.Receive.Up.{up_flows}
 
 -- ---- what Standing says of endpoint 2
 

@@ -20,7 +20,7 @@ use Rattle.delivery.proofs.Receive.Tally.{free_even}
 use Rattle.delivery.proofs.Receive.Storing.{Ready, ready_waits}
 use Rattle.delivery.proofs.Receive.Alike.{rx, out_alike}
 use Rattle.delivery.proofs.Receive.Deliver.{good_acked}
-use Rattle.delivery.proofs.Receive.Service.{service_served}
+use Rattle.delivery.proofs.Receive.Judged.{service_served}
 use Rattle.delivery.proofs.Receive.Flow.{Flow}
 use Rattle.delivery.proofs.Receive.Acts.{clear, sound_of, act_flows}
 use Rattle.delivery.proofs.Receive.Received.{reached_flow}

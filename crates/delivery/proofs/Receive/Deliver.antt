@@ -37,7 +37,8 @@ use Rattle.laws.proofs.Typed.Steps.{judged_by}
 use Rattle.driving.proofs.Packet.{held}
 use Rattle.delivery.specs.World.{answer_to, is_ack}
 use Rattle.laws.specs.Place.{endpoint}
-use Rattle.delivery.proofs.Receive.Storing.{Ready, Shut, Stores, sound_judged, sound_stores, unsound_judged, unsound_shuts, shut_judged, shut_received, shut_bytes}
+use Rattle.delivery.proofs.Receive.Storing.{Ready, Shut, Stores, shut_judged, shut_received, shut_bytes}
+use Rattle.delivery.proofs.Receive.Sound.{sound_judged, sound_stores, unsound_judged, unsound_shuts}
 use Rattle.delivery.proofs.Receive.Alike.{rx, Alike}
 
 -- what is answered to data changes no receiver, and is an ACK where it is judged so

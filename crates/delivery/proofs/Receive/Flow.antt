@@ -12,7 +12,7 @@ use Rattle.delivery.specs.Host.{Packet, Open, over, fails, Host}
 use Rattle.delivery.specs.World.{World, if_so, goes, sees, host_in, host_out}
 use Rattle.delivery.specs.Lists.{waits}
 use Rattle.driving.proofs.Packet.{held}
-use Rattle.delivery.proofs.Receive.Tally.{due, Tally, stored_unseen, stored_seen, taken_tally, none_tally, up_tally}
+use Rattle.delivery.proofs.Receive.Tally.{due, Tally, stored_unseen, stored_seen, taken_tally, none_tally}
 use Rattle.delivery.proofs.Receive.Storing.{Ready, Shut, Shape, ready_waits, err_waits, Stores}
 use Rattle.delivery.proofs.Receive.Alike.{rx}
 
@@ -71,11 +71,6 @@ in_keeps true answer.Nak h = goes_keeps over h
 in_keeps true answer.Stall h = goes_keeps over h
 
 module _ {r : Receiver} {c : Packet} {x : Bool} {h : Host} {t k : List Packet} (f : Flows r c x h t k) where
-  -- The host takes up a packet where it holds none.
-  pub up_flows : (p : Packet) → h.holds ≡ false
-      → Flows r c x (record { expects = h.expects; sends = h.sends; holds = true; packet = p; at = h.at }) t k
-  up_flows p free = record { shape = f.shape; tally = up_tally (waits r x) c x h.sends h.packet p t k (rw free at f.tally) }
-
   -- No ACK is seen.
   pub unacked : (acked : Bool) → acked ≡ false → Flows r c x (host_out acked h) t (k ++ if_so acked h.packet)
   unfolding host_out pick

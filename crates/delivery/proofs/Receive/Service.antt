@@ -3,8 +3,7 @@
 use Prim.Native.Nat.{ℕ, zero, suc, ◌+◌, ◌*◌, ◌/◌, ◌%◌, ◌≤◌, min}
 use native.Mathlib.Omega.{arith}
 use mathlib.Core.Path.{◌≡◌, refl, sym, ap, ◌∙◌}
-use mathlib.Core.Logic.{inl, inr}
-use mathlib.Core.Bool.{Bool, true, false, not, ◌&&◌, ◌||◌, false≢true}
+use mathlib.Core.Bool.{Bool, true, false, not, ◌&&◌, false≢true}
 use mathlib.Core.List.{[]}
 use lib.Dec.{eqb}
 use Rattle.choice.specs.Choice.{pick}
@@ -24,13 +23,13 @@ use Rattle.driver.specs.declared.Did.{Did}
 use Rattle.driver.specs.declared.Did.TheVariants as did
 use Rattle.driver.specs.Registers.{written, value, seen}
 use Rattle.driver.specs.Driver.{Call}
-use Rattle.receiving.specs.Receive.{Taking, taken, rounds, all_taken, flushing, accepting, judged, receive_served, received}
+use Rattle.receiving.specs.Receive.{Taking, taken, rounds, all_taken, flushing, accepting, received}
 use Rattle.driving.proofs.Kept.{Sound, read_sound}
 use Rattle.driving.proofs.Packet.{held, rxs_held, shown_still, takes_all}
-use Rattle.delivery.specs.World.{same, is_taken}
+use Rattle.delivery.specs.World.{is_taken}
 use Rattle.delivery.specs.Lists.{waits}
 use Rattle.delivery.proofs.Receive.Tally.{due}
-use Rattle.delivery.proofs.Receive.Storing.{Ready, Shape, err_waits}
+use Rattle.delivery.proofs.Receive.Storing.{Ready}
 use Rattle.delivery.proofs.Receive.Alike.{rx}
 
 -- ---- RXS
@@ -64,13 +63,13 @@ module _ (m : Model) where
       × (status_of (rx m) / 0x10 % 2 ≡ bit_of (rx m).last)
   parts = bits (rx m).err (rx m).setup (rx m).toggle (rx m).last (level (rx m).fifo.read (rx m).fifo.write)
 
-  shows_err : has 0x80 (value 0x2E m) ≡ (rx m).err
+  pub shows_err : has 0x80 (value 0x2E m) ≡ (rx m).err
   shows_err = bit_is _ _ (ap (λ (v : ℕ). v / 0x80 % 2) shows ∙ parts.0)
 
-  shows_toggle : value 0x2E m / 0x20 % 2 ≡ bit_of (rx m).toggle
+  pub shows_toggle : value 0x2E m / 0x20 % 2 ≡ bit_of (rx m).toggle
   shows_toggle = ap (λ (v : ℕ). v / 0x20 % 2) shows ∙ parts.1
 
-  shows_last : has 0x10 (value 0x2E m) ≡ (rx m).last
+  pub shows_last : has 0x10 (value 0x2E m) ≡ (rx m).last
   shows_last = bit_is _ _ (ap (λ (v : ℕ). v / 0x10 % 2) shows ∙ parts.2)
 
 -- ---- what the accesses leave of endpoint 2
@@ -155,17 +154,17 @@ pub record Served (m : Model) (d : Driver) (x : Call) : Type 0 where
   pub packet : waits (rx m) d.expects ≡ true → x.bytes ≡ held m
   pub expects : x.driver.expects ≡ due (waits (rx m) d.expects) d.expects
 
-last_waits : (l e t : Bool) → e ≡ false → l ≡ true → (l && not e && t) ≡ t
+pub last_waits : (l e t : Bool) → e ≡ false → l ≡ true → (l && not e && t) ≡ t
 last_waits l e t h k = rw (h, k)
 
 module _ (m : Model) (d : Driver) (s : Sound m) (on : operational m.chip ≡ true) where
-  abbrev w : Bool
+  abbrev pub w : Bool
   w = waits (rx m) d.expects
 
   never : {A : Type 0} → w ≡ false → w ≡ true → A
   never no-wait wait = absurd {0} (false≢true (sym no-wait ∙ wait))
 
-  flush_served : (why : Did) → is_taken why ≡ false → w ≡ false → Served m d (flushing why (seen 0x2E m) d)
+  pub flush_served : (why : Did) → is_taken why ≡ false → w ≡ false → Served m d (flushing why (seen 0x2E m) d)
   unfolding flushing pick
   flush_served why no-take no-wait =
       record {
@@ -175,7 +174,7 @@ module _ (m : Model) (d : Driver) (s : Sound m) (on : operational m.chip ≡ tru
         expects = rw no-wait;
       }
 
-  nothing_served : Ready (rx m) → w ≡ false → Served m d (record { model = seen 0x2E m; driver = d; did = did.Nothing; bytes = [] })
+  pub nothing_served : Ready (rx m) → w ≡ false → Served m d (record { model = seen 0x2E m; driver = d; did = did.Nothing; bytes = [] })
   unfolding is_taken pick
   nothing_served h no-wait =
       record {
@@ -185,7 +184,7 @@ module _ (m : Model) (d : Driver) (s : Sound m) (on : operational m.chip ≡ tru
         expects = rw no-wait;
       }
 
-  accept_served : w ≡ true → Served m d (accepting (all_taken (value 0x2E m % 16) (seen 0x2E m)) d)
+  pub accept_served : w ≡ true → Served m d (accepting (all_taken (value 0x2E m % 16) (seen 0x2E m)) d)
   unfolding accepting is_taken pick
   accept_served wait =
       let n : Model = seen 0x2E m in
@@ -197,30 +196,3 @@ module _ (m : Model) (d : Driver) (s : Sound m) (on : operational m.chip ≡ tru
         packet = λ _. sym all.0 ∙ rxs_held m;
         expects = rw wait;
       }
-
-  judged_served : Shape (rx m) → Served m d (judged (value 0x2E m) (seen 0x2E m) d)
-  unfolding judged is_taken
-  judged_served shape =
-      by_test (Served m d) (has 0x80 (value 0x2E m))
-      (λ e. flush_served did.Flushed refl (err_waits (rx m) d.expects (sym (shows_err m) ∙ e)))
-      (λ e. by_test (Served m d) (has 0x10 (value 0x2E m))
-      (λ l. by_test (Served m d) _
-      (λ t. accept_served (whole e l ∙ toggled t))
-      (λ t. flush_served did.Repeat refl (whole e l ∙ toggled t)))
-      (λ l. nothing_served (ready_of shape e l) (ap (λ (b : Bool). b && not (rx m).err && same (rx m).toggle d.expects) (sym (shows_last m) ∙ l))))
-    where
-      whole : has 0x80 (value 0x2E m) ≡ false → has 0x10 (value 0x2E m) ≡ true → w ≡ same (rx m).toggle d.expects
-      whole e l = last_waits (rx m).last (rx m).err (same (rx m).toggle d.expects) (sym (shows_err m) ∙ e) (sym (shows_last m) ∙ l)
-
-      toggled : {b : Bool} → eqb (value 0x2E m / 0x20 % 2) (bit_of d.expects) ≡ b → same (rx m).toggle d.expects ≡ b
-      toggled t = ap (λ (v : ℕ). eqb v (bit_of d.expects)) (sym (shows_toggle m)) ∙ t
-
-      ready_of : Shape (rx m) → has 0x80 (value 0x2E m) ≡ false → has 0x10 (value 0x2E m) ≡ false → Ready (rx m)
-      ready_of (inl h) e l = h
-      ready_of (inr h) e l =
-          absurd {0} (false≢true (sym (ap (λ (b : Bool). b || (rx m).err) (sym (shows_last m) ∙ l) ∙ sym (shows_err m) ∙ e) ∙ h.flagged))
-
-  -- The receive service takes the packet that waits, flushes what does not, and leaves endpoint 2 ready.
-  pub service_served : Shape (rx m) → Served m d (receive_served m d)
-  unfolding receive_served pick
-  service_served shape = rw s.formed (judged_served shape)

@@ -51,7 +51,7 @@ use Rattle.event.specs.declared.Event.TheVariants as event
 use Rattle.answer.specs.declared.Answer.{Answer}
 use Rattle.answer.specs.declared.Answer.TheVariants.{Nak}
 use Rattle.laws.specs.Next.{next}
-use Rattle.delivery.proofs.Runs.Sides.{A, B, run, stray, sides, sending, receiving, same_packets, not_sent_again, not_received_again}
+use Rattle.delivery.proofs.Runs.Sides.{A, B, run, stray, sides, sending, receiving}
 
 -- ---- IN
 
@@ -175,11 +175,3 @@ naks =
       received_then = refl;
       received-once = record { once = inl refl };
     }
-
-pub sends_never : (naks_in.host.at ≡ over → SentAgain naks_in) → ⊥
-unfolding same_packets
-sends_never = not_sent_again naks_in _ _ _ naks.in_over naks.sent naks.sent_then refl
-
-pub receives_never : (naks_out.host.at ≡ over → ReceivedAgain naks_out) → ⊥
-unfolding same_packets
-receives_never = not_received_again naks_out _ _ _ naks.out_over naks.received naks.received_then refl

@@ -43,10 +43,10 @@ use Rattle.driver.specs.Driver.{set_up, accepted, admission, offered_by, offered
 use Rattle.receiving.specs.Receive.{taken, rounds, flushing, accepting, judged, receive_served}
 use Rattle.delivery.specs.Host.{over, is_over, is_acks, is_datas, is_others, elsewhere, other_token, other_rest, sound, offer, send_service, receive_service, take, in_token, ack, out_token, out_data}
 use Rattle.delivery.specs.World.{start_world, held, is_done, is_delivered, is_taken, called, act_offer, act_send, act_receive, answer_to, happens, hostly, goes, sees, host_in, got_in, act_in, act_ack, is_ack, act_take, act_out, host_out, sent, act_data, after_token, act_other, act, acts, World}
-use Rattle.delivery.specs.Lists.{waiting, has, host_held, recover_sending, recover_receiving, Sent, Received, SentAgain, ReceivedAgain}
+use Rattle.delivery.specs.Lists.{waiting, has, host_held, recover_sending, recover_receiving}
 use Rattle.event.specs.declared.Event.{Event}
 use Rattle.event.specs.declared.Event.TheVariants.{Read, Write}
-use Rattle.delivery.proofs.Runs.Sides.{A, B, run, stray, sides, same_packet, same_packets, sending, receiving, not_sent, not_received, not_sent_again, not_received_again}
+use Rattle.delivery.proofs.Runs.Sides.{A, B, run, stray, sides, sending, receiving}
 
 -- a register access by somebody else
 abbrev by_another : Event → World → World
@@ -162,36 +162,4 @@ reserved_runs =
       over_write_05 = refl;
       over_write_28 = refl;
       over_write_2_c = refl;
-    }
-
--- so demand 3's sentences do not hold there
-pub record Refuted : Type 0 where
-  pub by_read_2_a : (read_2_a.host.at ≡ over → SentAgain read_2_a) → ⊥
-  pub by_read_2_d : Received read_2_d → ⊥
-  pub by_read_2_e : Received read_2_e → ⊥
-  pub by_write_00 : Received write_00 → ⊥
-  pub by_write_04 : (write_04.host.at ≡ over → SentAgain write_04) → ⊥
-  pub by_write_05 : (write_05.host.at ≡ over → SentAgain write_05) → ⊥
-  pub by_write_28 : (write_28.host.at ≡ over → SentAgain write_28) → ⊥
-  pub by_write_29 : Sent write_29 → ⊥
-  pub by_write_2_b : Sent write_2_b → ⊥
-  pub by_write_2_c : (write_2_c.host.at ≡ over → ReceivedAgain write_2_c) → ⊥
-  pub by_write_2_f : Received write_2_f → ⊥
-
-pub refuted : Refuted
-unfolding same_packet same_packets
-refuted =
-    let r : Reserved = reserved_runs in
-    record {
-      by_read_2_a = not_sent_again read_2_a _ _ _ r.over_read_2_a r.on_read_2_a r.then_read_2_a refl;
-      by_read_2_d = not_received read_2_d _ _ _ r.on_read_2_d (refl, refl);
-      by_read_2_e = not_received read_2_e _ _ _ r.on_read_2_e (refl, refl);
-      by_write_00 = not_received write_00 _ _ _ r.on_write_00 (refl, refl);
-      by_write_04 = not_sent_again write_04 _ _ _ r.over_write_04 r.on_write_04 r.then_write_04 refl;
-      by_write_05 = not_sent_again write_05 _ _ _ r.over_write_05 r.on_write_05 r.then_write_05 refl;
-      by_write_28 = not_sent_again write_28 _ _ _ r.over_write_28 r.on_write_28 r.then_write_28 refl;
-      by_write_29 = not_sent write_29 _ _ _ r.on_write_29 (refl, refl);
-      by_write_2_b = not_sent write_2_b _ _ _ r.on_write_2_b (refl, refl);
-      by_write_2_c = not_received_again write_2_c _ _ _ r.over_write_2_c r.on_write_2_c r.then_write_2_c refl;
-      by_write_2_f = not_received write_2_f _ _ _ r.on_write_2_f (refl, refl);
     }

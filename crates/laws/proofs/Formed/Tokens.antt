@@ -2,7 +2,7 @@
 -- Assumes nothing.
 use Prim.Native.Nat.{ℕ}
 use mathlib.Core.Path.{◌≡◌, refl}
-use mathlib.Core.Bool.{Bool, true, false}
+use mathlib.Core.Bool.{true}
 use Rattle.choice.proofs.ByTest.{by_test}
 use Rattle.window.specs.declared.FifoNumber.{FifoNumber}
 use Rattle.window.specs.Window.{fifo0, index_of, numbered}
@@ -25,36 +25,14 @@ use Rattle.bus.specs.Bus.{awaiting, marked_in, in_zero, in_sender, in_at, in_by,
 use Rattle.formed.specs.Formed.{sends, receives}
 use Rattle.laws.specs.Typed.{TypedChip}
 use Rattle.laws.proofs.Typed.Steps.{answered_zero_by, answered_sender_by}
-use Rattle.laws.specs.Place.{endpoint}
-use Rattle.laws.proofs.Frame.Lowest.{lowest_of, in_lowest, out_lowest}
+use Rattle.laws.proofs.Frame.Lowest.{in_lowest, out_lowest}
 use Rattle.laws.proofs.Formed.Facts.{Facts, with_control_well, with_sender_well, with_events_well, with_pending_well}
 use Rattle.laws.proofs.Formed.Pending.{handshake_well, data_well, setup_well}
 use Rattle.laws.proofs.Formed.Registers.{counters_tx}
+use Rattle.laws.proofs.Formed.Lowest.{whoever, lowest_sends, lowest_receives}
 
 abbrev pub Gives : Out → Type 0
 Gives o = Facts true o.chip
-
--- what is said of whoever takes a token, if anybody does
-abbrev pub whoever : (Endpoint → Bool) → Match → Bool
-whoever p Nobody = true
-whoever p (Takes e) = p e
-
--- of endpoint 0 and three others, the lowest that matches is one of them
-lowest : (p : Endpoint → Bool) (i j k : ℕ) → p (endpoint 0) ≡ true → p (endpoint i) ≡ true → p (endpoint j) ≡ true → p (endpoint k) ≡ true
-    → (a b c d : Bool) → whoever p (lowest_of i j k a b c d) ≡ true
-lowest p i j k o x y z true b c d = o
-lowest p i j k o x y z false true c d = x
-lowest p i j k o x y z false false true d = y
-lowest p i j k o x y z false false false true = z
-lowest p i j k o x y z false false false false = refl
-
-lowest_sends : (a b c d : Bool) → whoever sends (lowest_of 1 3 5 a b c d) ≡ true
-unfolding sends
-lowest_sends = lowest sends _ _ _ refl refl refl refl
-
-lowest_receives : (a b c d : Bool) → whoever receives (lowest_of 2 4 6 a b c d) ≡ true
-unfolding receives
-lowest_receives = lowest receives _ _ _ refl refl refl refl
 
 module _ (address : ℕ) (e : BusEndpoint) (c : Chip) where
   -- Whoever takes an IN token sends, whoever takes an OUT token receives.

@@ -9,7 +9,8 @@ use mathlib.Core.List.{List}
 use borrow.Author.Tests.{eqb-false}
 use Rattle.window.specs.declared.Kind.TheVariants.{Transmit, Receive}
 use Rattle.window.specs.Window.{index_of, start_of, size_of}
-use Rattle.contents.proofs.Windows.{index_small, Apart, Same, Kept, windows_apart}
+use Rattle.contents.proofs.Windows.{Apart, Same, Kept, windows_apart}
+use Rattle.contents.proofs.Inside.{index_small}
 use Rattle.laws.specs.Place.{Place, zero, sends, receives, at, window_of, bytes_at}
 
 abbrev start : Place → ℕ

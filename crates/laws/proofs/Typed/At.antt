@@ -7,7 +7,7 @@ use lib.ListN.{length}
 use lib.Seq.{get_or-set_same}
 use Rattle.window.specs.declared.FifoNumber.{FifoNumber}
 use Rattle.window.specs.Window.{index_of}
-use Rattle.contents.proofs.Windows.{index_small}
+use Rattle.contents.proofs.Inside.{index_small}
 use Rattle.sender.specs.declared.Sender.{Sender}
 use Rattle.sender.specs.Sender.{reset_sender}
 use Rattle.receiver.specs.declared.Receiver.{Receiver}
