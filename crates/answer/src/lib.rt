@@ -29,12 +29,15 @@ pub enum Answer {
     Stall,
 }
 
+// What an event gives: the next state, and what is seen.
 #[derive(Clone, Copy)]
 pub struct Out {
     pub chip: Chip,
     pub answer: Answer,
 }
 
+// A state, and silence on the bus; a call for speed, as `step` says.
+#[inline(never)]
 pub fn silent(c: Chip) -> Out
     ensures { result ≡ silent c }
 {

@@ -1,5 +1,5 @@
 -- What the tokens leave, and what is answered to them, in the operational state.
-use Rattle.std.specs.Prelude.{ℕ, eqb}
+use Rattle.std.specs.Prelude.{ℕ, eqb, Option, None, Some}
 use Rattle.choice.specs.Choice.{pick}
 use Rattle.window.specs.declared.FifoNumber.{FifoNumber}
 use Rattle.window.specs.Window.{fifo0}
@@ -18,8 +18,6 @@ use Rattle.state.specs.declared.Wait.TheVariants as wait
 use Rattle.state.specs.declared.Chip.{Chip}
 use Rattle.state.specs.State.{sender_at, fifo_of, zero_place, awaiting_only}
 use Rattle.state.specs.Set.{with_control, with_sender, with_events, with_pending, nakked_in}
-use Rattle.tokens.specs.declared.Match.{Match}
-use Rattle.tokens.specs.declared.Match.TheVariants.{Nobody, Takes}
 use Rattle.tokens.specs.Tokens.{zero_takes, in_mask, out_mask, winner}
 use Rattle.answer.specs.declared.Answer.TheVariants.{Data0, Data1, Broken, Nak, Stall}
 use Rattle.answer.specs.declared.Out.{Out}
@@ -63,9 +61,9 @@ unfoldable pub in_at : Endpoint → Chip → Out
 in_at e c = pick (eqb e.0 0) (in_zero c) (in_sender e c)
 
 -- "the lowest-numbered of all that match takes the token. No match: silence."
-abbrev pub in_by : Match → Chip → Out
-in_by Nobody c = silent c
-in_by (Takes e) c = in_at e c
+abbrev pub in_by : Option Endpoint → Chip → Out
+in_by None c = silent c
+in_by (Some e) c = in_at e c
 
 abbrev pub in_token : ℕ → BusEndpoint → Chip → Out
 in_token address e c = in_by (winner (in_mask address e c)) c
@@ -76,9 +74,9 @@ in_token address e c = in_by (winner (in_mask address e c)) c
 unfoldable pub out_at : Endpoint → Chip → Chip
 out_at e c = pick (eqb e.0 0) (awaiting (wait.Data e) (with_control (zero.out_token c.control) c)) (awaiting (wait.Data e) c)
 
-abbrev pub out_by : Match → Chip → Out
-out_by Nobody c = silent c
-out_by (Takes e) c = silent (out_at e c)
+abbrev pub out_by : Option Endpoint → Chip → Out
+out_by None c = silent c
+out_by (Some e) c = silent (out_at e c)
 
 abbrev pub out_token : ℕ → BusEndpoint → Chip → Out
 out_token address e c = out_by (winner (out_mask address e c)) c

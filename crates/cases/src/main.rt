@@ -5,34 +5,30 @@
 use std::io;
 use std::io::{Read, Write};
 
+// One trace after another, until the input ends or has one of more than 65,537 bytes.
 fn main(rt: HostRuntime) -> io::Result<()> {
     let mut from = rt.stdin();
     let mut to = rt.stdout();
+    let mut input = [0u8; 65537];
     for _ in 0..u64::MAX {
-        if !one(&mut from, &mut to)? {
+        let Some(n) = length(&mut from)? else {
             break;
-        }
+        };
+        let Some(trace) = input.get_mut(..n) else {
+            break;
+        };
+        run_one(&mut from, &mut to, trace)?;
     }
     Ok(())
 }
 
-// One trace; false where none is left.
-fn one<R: Read, W: Write>(from: &mut R, to: &mut W) -> io::Result<bool> {
-    let mut header = [0u8; 3];
-    if console::read_full(from, &mut header)? < 3 {
-        return Ok(false);
+// The length of the next trace, of three bytes, low byte first; none where the input ends.
+fn length<R: Read>(from: &mut R) -> io::Result<Option<usize>> {
+    let mut bytes = [0u8; 4];
+    if console::read_full(from, &mut bytes[..3])? < 3 {
+        return Ok(None);
     }
-    let n = length(header[0], header[1], header[2]);
-    if 65537 < n {
-        return Ok(false);
-    }
-    let mut input = [0u8; 65537];
-    run_one(from, to, &mut input[..n])?;
-    Ok(true)
-}
-
-fn length(low: u8, middle: u8, high: u8) -> usize {
-    low as usize + 256 * middle as usize + 65536 * high as usize
+    Ok(Some(u32::from_le_bytes(bytes) as usize))
 }
 
 // Reads a trace that fills the buffer, runs it, and ends its output.

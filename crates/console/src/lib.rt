@@ -6,10 +6,11 @@ ghost use Rattle.std.specs.Prelude.{◌≤◌, length, IfOk};
 
 use lines::LONGEST;
 use refusal::Refusal;
-use running::{Ran, Stop};
+use running::Stop;
 use state::Chip;
 use std::io;
 use std::io::{Read, Write};
+use trace::Refused;
 
 // Reads until the buffer is full or the input ends, and tells how many bytes it put at the start of the buffer.
 pub fn read_full<R: Read>(from: &mut R, buf: &mut [u8]) -> io::Result<usize>
@@ -26,7 +27,7 @@ pub fn read_full<R: Read>(from: &mut R, buf: &mut [u8]) -> io::Result<usize>
     Ok(done)
 }
 
-// Runs a trace and writes its lines.
+// Runs a trace and writes its lines, as many at a time as fit the buffer.
 pub fn run<W: Write>(to: &mut W, s: &[u8]) -> io::Result<()> {
     let mut memory = [0u8; 392];
     let mut out = [0u8; 65536];
@@ -35,48 +36,32 @@ pub fn run<W: Write>(to: &mut W, s: &[u8]) -> io::Result<()> {
     let mut number = 0u64;
     let mut turns = u64::MAX;
     while turns > 0 {
-        let r = turn(to, chip, &mut memory, s, place, number, &mut out)?;
-        let stop = r.stop;
-        let Stop::Full = stop else {
-            return told(to, stop);
-        };
-        chip = r.chip;
-        place = r.place;
-        number = r.number;
+        let ran = running::run(chip, &mut memory, s, place, number, &mut out);
+        to.write_all(&out[..ran.written])?;
+        match ran.stop {
+            Ok(Stop::Full) => {}
+            Ok(Stop::End) => return Ok(()),
+            Err(refused) => return told(to, refused),
+        }
+        chip = ran.chip;
+        place = ran.place;
+        number = ran.number;
         turns -= 1;
     }
     Ok(())
 }
 
-// Runs on, and writes what fits the buffer.
-fn turn<W: Write>(
-    to: &mut W,
-    c: Chip,
-    memory: &mut [u8; 392],
-    s: &[u8],
-    at: usize,
-    number: u64,
-    out: &mut [u8],
-) -> io::Result<Ran> {
-    let r = running::run(c, memory, s, at, number, out);
-    to.write_all(&out[..r.written])?;
-    Ok(r)
-}
-
 // An input that is too long, or a state that is not well formed, has printed nothing yet.
-fn told<W: Write>(to: &mut W, stop: Stop) -> io::Result<()> {
-    let Stop::Refused(why, place) = stop else {
-        return Ok(());
-    };
-    if 5 <= why.number() {
-        return at_once(to, why, place);
+fn told<W: Write>(to: &mut W, refused: Refused) -> io::Result<()> {
+    match refused.why {
+        Refusal::NotWellFormed | Refusal::InputTooLong => at_once(to, refused),
+        _ => Ok(()),
     }
-    Ok(())
 }
 
 // Writes the line of a refusal before any event: "8 prints with n 0".
-fn at_once<W: Write>(to: &mut W, why: Refusal, place: usize) -> io::Result<()> {
+fn at_once<W: Write>(to: &mut W, refused: Refused) -> io::Result<()> {
     let mut line = [0u8; LONGEST];
-    let n = lines::refusal(&mut line, 0, 0, why, place);
+    let n = lines::refusal(&mut line, 0, 0, refused.why, refused.place);
     to.write_all(&line[..n])
 }

@@ -13,19 +13,19 @@ use borrow.Author.Tests.{leb-true, eqb-true, ltb-true, eq-eqb, ne_eqb}
 use Rattle.choice.specs.Choice.{pick}
 use Rattle.choice.proofs.ByTest.{by_test}
 use Rattle.fifo0.specs.declared.Fifo0.{Fifo0}
-use Rattle.fifo0.specs.declared.Taken0.{Taken0}
 use Rattle.window.specs.declared.Kind.TheVariants.{Control}
 use Rattle.window.specs.Window.{size0, fifo0}
+use Rattle.ring.specs.declared.Taken.{Taken}
 use Rattle.ring.specs.Ring.{level, full}
 use Rattle.fifo0.specs.Control.{reset0, contents0, rcount, shut0, put0, put0_bytes, take0, fits0, fill0, fill0_bytes, spend0}
 use Rattle.contents.proofs.Ring.{eight, Counters, level_adds, level_read, level_length, head_tail, contents_none, contents_spent, store_appends, store_all_appends}
 use Rattle.contents.proofs.Windows.{Kept, unchanged_kept, store_kept, store_all_kept, window_fits}
 
 -- what a take gives is the head of the list and the new last byte; what it leaves is the tail
-pub record Takes0 (f : Fifo0) (m : List ℕ) (r : Taken0) : Type 0 where
-  pub list : contents0 f m ≡ r.value ∷ contents0 r.fifo m
+pub record Takes0 (f : Fifo0) (m : List ℕ) (r : Taken Fifo0) : Type 0 where
+  pub list : contents0 f m ≡ r.value ∷ contents0 r.next m
   pub taken : r.taken ≡ true
-  pub last : r.fifo.last ≡ r.value
+  pub last : r.next.last ≡ r.value
 
 -- the mark of received bytes is set only while bytes are held
 pub record Canonical0 (f : Fifo0) : Type 0 where
@@ -64,7 +64,7 @@ module _ (f : Fifo0) (m : List ℕ) where
   put0_ignored b shut = rw shut (refl, refl)
 
   -- A take with no received byte repeats the last one, takes none and changes nothing.
-  pub take0_none : rcount f ≡ 0 → take0 f m ≡ record { fifo = f; value = f.last; taken = false }
+  pub take0_none : rcount f ≡ 0 → take0 f m ≡ record { next = f; value = f.last; taken = false }
   unfolding take0 pick
   take0_none none = rw (eq-eqb _ 0 none)
 
@@ -118,10 +118,10 @@ unfolding put0
 put0_canonical f h = by_test Canonical0 _ (λ _. h) (λ _. unmarked _ refl)
 
 -- So does a take: with the last byte gone the mark is gone.
-pub take0_canonical : (f : Fifo0) (m : List ℕ) → Counters f.read f.write → Canonical0 f → Canonical0 (take0 f m).fifo
+pub take0_canonical : (f : Fifo0) (m : List ℕ) → Counters f.read f.write → Canonical0 f → Canonical0 (take0 f m).next
 unfolding take0
 take0_canonical f m c h =
-    by_test (λ (r : Taken0). Canonical0 r.fifo) _ (λ _. h) (λ _. record {
+    by_test (λ (r : Taken Fifo0). Canonical0 r.next) _ (λ _. h) (λ _. record {
       stands = λ e.
           let more : 1 < level f.read f.write = omega (arith, ltb-true 1 (rcount f) e, rcount_level f) in
           omega (arith, level_read f.read f.write c (omega arith));

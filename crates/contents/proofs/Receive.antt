@@ -13,19 +13,19 @@ use Rattle.choice.specs.Choice.{pick}
 use Rattle.choice.proofs.ByTest.{by_test}
 use Rattle.window.specs.declared.FifoNumber.{FifoNumber}
 use Rattle.rxfifo.specs.declared.RxFifo.{RxFifo}
-use Rattle.rxfifo.specs.declared.TakenRx.{TakenRx}
 use Rattle.window.specs.declared.Kind.TheVariants.{Receive}
 use Rattle.window.specs.Window.{rx_size, start_of}
+use Rattle.ring.specs.declared.Taken.{Taken}
 use Rattle.ring.specs.Ring.{level}
 use Rattle.rxfifo.specs.Receive.{reset_rx, rx_contents, take_rx, fits_rx, fill_rx, fill_rx_bytes}
 use Rattle.contents.proofs.Ring.{sixty_four, Counters, level_length, head_tail, contents_spent, store_all_appends}
 use Rattle.contents.proofs.Windows.{Kept, unchanged_kept, store_all_kept, window_fits}
 
 -- what a take gives is the head of the list and the new last byte; what it leaves is the tail
-pub record TakesRx (n : FifoNumber) (f : RxFifo) (m : List ℕ) (r : TakenRx) : Type 0 where
-  pub list : rx_contents n f m ≡ r.value ∷ rx_contents n r.fifo m
+pub record TakesRx (n : FifoNumber) (f : RxFifo) (m : List ℕ) (r : Taken RxFifo) : Type 0 where
+  pub list : rx_contents n f m ≡ r.value ∷ rx_contents n r.next m
   pub taken : r.taken ≡ true
-  pub last : r.fifo.last ≡ r.value
+  pub last : r.next.last ≡ r.value
 
 module _ (n : FifoNumber) (f : RxFifo) (m : List ℕ) where
   -- The level is the number of bytes held.
@@ -33,7 +33,7 @@ module _ (n : FifoNumber) (f : RxFifo) (m : List ℕ) where
   rx_contents_length = level_length (start_of Receive n) rx_size m f.read f.write
 
   -- A take with no byte held repeats the last one, takes none and changes nothing.
-  pub take_rx_none : level f.read f.write ≡ 0 → take_rx n f m ≡ record { fifo = f; value = f.last; taken = false }
+  pub take_rx_none : level f.read f.write ≡ 0 → take_rx n f m ≡ record { next = f; value = f.last; taken = false }
   unfolding take_rx pick
   take_rx_none none = rw (eq-eqb _ 0 none)
 

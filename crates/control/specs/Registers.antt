@@ -2,11 +2,11 @@
 use Rattle.std.specs.Prelude.{ℕ, ◌+◌, ◌*◌, min, ◌≡◌, Bool, false, ◌&&◌, List}
 use Rattle.choice.specs.Choice.{pick}
 use Rattle.window.specs.Window.{size0}
+use Rattle.ring.specs.declared.Taken.{Taken}
 use Rattle.ring.specs.Ring.{free}
 use Rattle.fifo0.specs.Control.{reset0, rcount, put0, put0_bytes, take0}
 use Rattle.epc.specs.Bits.{bit_of, has, odd}
 use Rattle.control.specs.declared.Control.{Control}
-use Rattle.control.specs.declared.TakenByte0.{TakenByte0}
 use Rattle.control.specs.State.{with_fifo, with_epc, with_tx_flags, with_rx_flags, with_tx, with_rx, with_sends, with_receives, with_mark}
 
 -- "20 EPC0: 7 STALL, 6 DEF."
@@ -67,8 +67,8 @@ pub record PutData (c : Control) (b : ℕ) (m : List ℕ) (r : Control) (m' : Li
 
 -- "RXD read takes a byte; with none it repeats the last one read, 0 after reset or flush"; "While FIFO0 has bytes to send, RCOUNT is 0 and
 -- RXD0 takes none."
-abbrev pub take_data : Control → List ℕ → TakenByte0
-take_data c m = record { control = with_fifo (take0 c.fifo m).fifo c; value = (take0 c.fifo m).value; taken = (take0 c.fifo m).taken }
+abbrev pub take_data : Control → List ℕ → Taken Control
+take_data c m = record { next = with_fifo (take0 c.fifo m).next c; value = (take0 c.fifo m).value; taken = (take0 c.fifo m).taken }
 
 -- "Writing another value clears TX_EN, .. RX_EN, .. and the SETUP mark, without TX_DONE; FIFO bytes stay."
 abbrev pub stopped : Control → Control

@@ -13,7 +13,7 @@ mod registers;
 // `stall`, `def` are EPC0; `ack`, `done` are ACK_STAT, TX_DONE of TXS0; `setup`, `toggle`, `last` are SETUP, TOGGLE, RX_LAST of RXS0;
 // `ignin`, `txtoggle`, `sends` are IGN_IN, TOGGLE, TX_EN of TXC0; `ignsetup`, `ignout`, `receives` are IGN_SETUP, IGN_OUT, RX_EN of RXC0.
 // `mark`: the previous token to 0 was a SETUP that was taken.
-#[derive(Clone, Copy)]
+#[derive(Clone, Copy, PartialEq, Eq, Default)]
 pub struct Control {
     pub fifo: Fifo0,
     pub stall: bool,
@@ -32,68 +32,28 @@ pub struct Control {
     pub mark: bool,
 }
 
-// What a read of RXD0 gives: the next state, the byte, and whether it was taken by this read.
-#[derive(Clone, Copy)]
-pub struct TakenByte0 {
-    pub control: Control,
-    pub value: u8,
-    pub taken: bool,
-}
-
 impl Control {
     pub fn reset() -> Control
         ensures { result ≡ reset_control }
     {
-        let fifo = Fifo0::reset();
-        Control {
-            fifo,
-            stall: false,
-            def: false,
-            ack: false,
-            done: false,
-            setup: false,
-            toggle: false,
-            last: false,
-            ignin: false,
-            txtoggle: false,
-            sends: false,
-            ignsetup: false,
-            ignout: false,
-            receives: false,
-            mark: false,
-        }
+        Control::default()
     }
 
     // Whether it is well formed in or outside the operational state.
+    #[tactic(auto, unfolding(crate::specs::State::well_formed))]
     pub fn well_formed(self, operational: bool) -> bool
         ensures { result ≡ well_formed operational self }
     {
-        if Fifo0::SIZE < ring::level(self.fifo.read, self.fifo.write) {
-            return false;
-        }
-        if unmarked_empty(self.fifo) {
-            if operational {
-                return true;
-            }
-            if self.sends {
-                return false;
-            }
-            if self.receives {
-                return false;
-            }
-            return true;
-        }
-        false
+        ring::level(self.fifo.read, self.fifo.write) <= Fifo0::SIZE
+            && unmarked_empty(self.fifo)
+            && (operational || !self.sends && !self.receives)
     }
 }
 
 // An empty FIFO0 does not stand as received.
+#[tactic(auto, unfolding(crate::specs::State::unmarked_empty))]
 fn unmarked_empty(f: Fifo0) -> bool
     ensures { result ≡ unmarked_empty f }
 {
-    let n = ring::level(f.read, f.write);
-    if f.received {
-        return n != 0;
-    }
-    true
+    !f.received || ring::level(f.read, f.write) != 0
 }

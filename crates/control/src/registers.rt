@@ -3,8 +3,10 @@ ghost use Rattle.std.specs.Prelude.{◌≡◌};
 ghost use Rattle.control.specs.Registers.{epc_value, with_epc_byte, tx_status, tx_cleared, rx_status, rx_cleared, tx_command_value, rx_command_value};
 ghost use Rattle.control.specs.Registers.{flushed, flushed_by, tx_command, rx_bits, rx_command, PutData, take_data, stopped};
 
-use crate::{Control, TakenByte0};
+use crate::Control;
 use fifo0::Fifo0;
+use ring::Taken;
+use window::Memory;
 
 impl Control {
     // What a read of EPC0 shows.
@@ -27,12 +29,9 @@ impl Control {
     pub fn tx_status(self) -> u8
         ensures { result ≡ tx_status self }
     {
-        let n = ring::free(Fifo0::SIZE, self.fifo.read, self.fifo.write);
-        let flags = 64 * epc::bit(self.ack) + 32 * epc::bit(self.done);
-        if n <= 31 {
-            return flags + n;
-        }
-        flags + 31
+        64 * epc::bit(self.ack)
+            + 32 * epc::bit(self.done)
+            + ring::free(Fifo0::SIZE, self.fifo.read, self.fifo.write).min(31)
     }
 
     // A read of TXS0 clears its flags.
@@ -48,14 +47,10 @@ impl Control {
     pub fn rx_status(self) -> u8
         ensures { result ≡ rx_status self }
     {
-        let n = self.fifo.rcount();
-        let flags = 64 * epc::bit(self.setup)
+        64 * epc::bit(self.setup)
             + 32 * epc::bit(self.toggle)
-            + 16 * epc::bit(self.last);
-        if n <= 15 {
-            return flags + n;
-        }
-        flags + 15
+            + 16 * epc::bit(self.last)
+            + self.fifo.rcount().min(15)
     }
 
     // A read of RXS0 clears its flags.
@@ -86,45 +81,38 @@ impl Control {
     pub fn flushed(mut self) -> Control
         ensures { result ≡ flushed self }
     {
-        let f = self.fifo.flush();
-        self.fifo = f;
+        self.fifo = self.fifo.flush();
         self
     }
 
     // FLUSH of a TXC0 or an RXC0 byte.
+    #[tactic(auto, unfolding(crate::specs::Registers::flushed_by, choice::specs::Choice::pick))]
     fn flushed_by(self, v: u8) -> Control
         ensures { result ≡ flushed_by v self }
     {
-        if v / 8 % 2 == 1 {
-            return self.flushed();
-        }
-        self
+        if v / 8 % 2 == 1 { self.flushed() } else { self }
     }
 
     // A TXC0 byte: flush, then the bits. Outside the operational state TX_EN is stored as 0.
+    #[tactic(auto, unfolding(crate::specs::Registers::tx_command))]
     pub fn tx_command(mut self, v: u8, operational: bool) -> Control
         ensures { result ≡ tx_command operational v self }
     {
         self = self.flushed_by(v);
         self.ignin = v / 16 % 2 == 1;
         self.txtoggle = v / 4 % 2 == 1;
-        self.sends = false;
-        if operational {
-            self.sends = v % 2 == 1;
-        }
+        self.sends = operational && v % 2 == 1;
         self
     }
 
     // The bits of an RXC0 byte; its flush may have to wait. Outside the operational state RX_EN is stored as 0.
+    #[tactic(auto, unfolding(crate::specs::Registers::rx_bits))]
     pub fn rx_bits(mut self, v: u8, operational: bool) -> Control
         ensures { result ≡ rx_bits operational v self }
     {
         self.ignsetup = v / 4 % 2 == 1;
         self.ignout = v / 2 % 2 == 1;
-        self.receives = false;
-        if operational {
-            self.receives = v % 2 == 1;
-        }
+        self.receives = operational && v % 2 == 1;
         self
     }
 
@@ -132,28 +120,25 @@ impl Control {
     pub fn rx_command(self, v: u8, operational: bool) -> Control
         ensures { result ≡ rx_command operational v self }
     {
-        let s = self.flushed_by(v);
-        s.rx_bits(v, operational)
+        self.flushed_by(v).rx_bits(v, operational)
     }
 
     // A write of TXD0; that a handshake is awaited is the chip's to know.
-    pub fn put(mut self, memory: &mut [u8; 392], b: u8) -> Control
+    pub fn put(mut self, memory: &mut Memory, b: u8) -> Control
         ensures { PutData self b memory.old result memory.new }
     {
-        let f = self.fifo.put(memory, b);
-        self.fifo = f;
+        self.fifo = self.fifo.put(memory, b);
         self
     }
 
     // A read of RXD0.
-    pub fn take(mut self, memory: &[u8; 392]) -> TakenByte0
+    pub fn take(mut self, memory: &Memory) -> Taken<Control>
         ensures { result ≡ take_data self memory.now }
     {
         let t = self.fifo.take(memory);
-        let f = t.fifo;
-        self.fifo = f;
-        TakenByte0 {
-            control: self,
+        self.fifo = t.next;
+        Taken {
+            next: self,
             value: t.value,
             taken: t.taken,
         }

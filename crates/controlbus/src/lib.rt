@@ -10,11 +10,12 @@ ghost use Rattle.controlbus.specs.Bus.{disabled, answer_in, sent, handshake, jud
 use control::Control;
 pub use setup::{judge_setup, received_setup, setup_dropped};
 use verdict::Judged;
+use window::Memory;
 
 pub mod setup;
 
 // What an IN token finds: silence, NAK, STALL, or DATA0 or DATA1 by TOGGLE.
-#[derive(Clone, Copy)]
+#[derive(Clone, Copy, PartialEq, Eq)]
 pub enum Sent0 {
     Silence,
     Nak,
@@ -24,55 +25,41 @@ pub enum Sent0 {
 }
 
 // Not enabled to send.
+#[tactic(auto, unfolding(crate::specs::Bus::disabled))]
 fn disabled(c: Control) -> bool
     ensures { result ≡ disabled c }
 {
-    if c.sends {
-        if c.receives {
-            return true;
-        }
-        return c.fifo.rcount() != 0;
-    }
-    true
+    !c.sends || c.receives || c.fifo.rcount() != 0
 }
 
 // What it answers to an IN token.
+#[tactic(auto, unfolding(crate::specs::Bus::answer_in, choice::specs::Choice::pick))]
 pub fn answer(c: Control) -> Sent0
     ensures { result ≡ answer_in c }
 {
     if c.ignin {
-        return Sent0::Silence;
+        Sent0::Silence
+    } else if disabled(c) {
+        Sent0::Nak
+    } else if c.stall {
+        Sent0::Stall
+    } else if c.txtoggle {
+        Sent0::Data1
+    } else {
+        Sent0::Data0
     }
-    if disabled(c) {
-        return Sent0::Nak;
-    }
-    if c.stall {
-        return Sent0::Stall;
-    }
-    if c.txtoggle {
-        return Sent0::Data1;
-    }
-    Sent0::Data0
 }
 
 // The state after that answer: an IN is a token to 0, so the mark goes in every case.
 pub fn sent(mut c: Control) -> Control
     ensures { result ≡ sent c }
 {
-    let answer = answer(c);
+    let found = answer(c);
     c.mark = false;
-    match answer {
-        Sent0::Silence => c,
-        Sent0::Nak => c,
+    match found {
+        Sent0::Silence | Sent0::Nak => c,
         Sent0::Stall => stalled(c),
-        Sent0::Data0 => {
-            c.def = false;
-            c
-        }
-        Sent0::Data1 => {
-            c.def = false;
-            c
-        }
+        Sent0::Data0 | Sent0::Data1 => Control { def: false, ..c },
     }
 }
 
@@ -87,70 +74,66 @@ fn stalled(mut c: Control) -> Control
 }
 
 // The end of the wait for a handshake: whether it was an ACK.
+#[tactic(auto, unfolding(crate::specs::Bus::handshake, choice::specs::Choice::pick))]
 pub fn handshake(mut c: Control, acked: bool) -> Control
     ensures { result ≡ handshake acked c }
 {
     if acked {
-        let f = c.fifo.spend();
-        c.fifo = f;
+        c.fifo = c.fifo.spend();
         c.sends = false;
         c.ack = true;
         c.done = true;
-        return c;
     }
     c
 }
 
 // What data after an OUT token finds.
+#[tactic(auto, unfolding(crate::specs::Bus::judge_out, verdict::specs::Verdict::heard, choice::specs::Choice::pick))]
 pub fn judge(c: Control, sound: bool, count: usize) -> Judged
     ensures { result ≡ judge_out sound count c }
 {
-    if c.ignout {
-        return Judged::Silence;
-    }
-    if c.receives {
-        if c.stall {
-            return Judged::Stall.heard(sound);
-        }
-        if c.fifo.fits(count) {
-            return Judged::Ack.heard(sound);
-        }
-        return Judged::Overrun.heard(sound);
-    }
-    Judged::Nak.heard(sound)
+    let judged = if c.ignout {
+        Judged::Silence
+    } else if !c.receives {
+        Judged::Nak
+    } else if c.stall {
+        Judged::Stall
+    } else if c.fifo.fits(count) {
+        Judged::Ack
+    } else {
+        Judged::Overrun
+    };
+    judged.heard(sound)
 }
 
 // The state after that data.
-pub fn received(mut c: Control, memory: &mut [u8; 392], pid: bool, sound: bool, s: &[u8]) -> Control
+#[tactic(auto, unfolding(choice::specs::Choice::pick))]
+pub fn received(c: Control, memory: &mut Memory, pid: bool, sound: bool, s: &[u8]) -> Control
     ensures { Received pid sound c s.now memory.old result memory.new }
 {
-    let judged = judge(c, sound, s.len());
-    match judged {
-        Judged::Silence => c,
-        Judged::Nak => c,
-        Judged::Stall => {
-            c.receives = false;
-            c.last = true;
-            c
-        }
-        Judged::Overrun => c,
+    match judge(c, sound, s.len()) {
+        Judged::Silence | Judged::Nak | Judged::Overrun => c,
+        Judged::Stall => Control {
+            receives: false,
+            last: true,
+            ..c
+        },
         Judged::Ack => stored(c, memory, pid, s),
     }
 }
 
 // The state after data that is acknowledged.
-fn stored(mut c: Control, memory: &mut [u8; 392], pid: bool, s: &[u8]) -> Control
+#[tactic(auto, unfolding(crate::specs::Bus::stored, choice::specs::Choice::pick))]
+fn stored(mut c: Control, memory: &mut Memory, pid: bool, s: &[u8]) -> Control
     ensures { Stored pid c s.now memory.old result memory.new }
 {
     c.receives = false;
-    if s.len() == 0 {
-        return c;
+    if !s.is_empty() {
+        c.fifo = c.fifo.fill(memory, s);
+        c.last = true;
+        c.toggle = pid;
+        c.setup = false;
     }
-    let f = c.fifo.fill(memory, s);
-    c.fifo = f;
-    c.last = true;
-    c.toggle = pid;
-    c.setup = false;
     c
 }
 

@@ -4,66 +4,47 @@ ghost use Rattle.controlbus.specs.Setup.{refused, judge_setup, TakenSetup, Recei
 
 use control::Control;
 use verdict::Judged;
+use window::Memory;
 
 // Data that no SETUP takes, or IGN_SETUP.
+#[tactic(auto, unfolding(crate::specs::Setup::refused))]
 fn refused(c: Control, pid: bool, sound: bool, count: usize) -> bool
     ensures { result ≡ refused pid sound count c }
 {
-    if c.ignsetup {
-        return true;
-    }
-    if sound {
-        if pid {
-            return true;
-        }
-        return count != 8;
-    }
-    true
+    c.ignsetup || !sound || pid || count != 8
 }
 
 // What data after a SETUP token finds.
+#[tactic(auto, unfolding(crate::specs::Setup::judge_setup, choice::specs::Choice::pick))]
 pub fn judge_setup(c: Control, pid: bool, sound: bool, count: usize) -> Judged
     ensures { result ≡ judge_setup pid sound count c }
 {
-    if refused(c, pid, sound, count) {
-        return Judged::Silence;
+    if !refused(c, pid, sound, count) && (c.mark || c.fifo.rcount() == 0) {
+        Judged::Ack
+    } else {
+        Judged::Silence
     }
-    if c.mark {
-        return Judged::Ack;
-    }
-    if c.fifo.rcount() != 0 {
-        return Judged::Silence;
-    }
-    Judged::Ack
 }
 
 // The state after that data. A repeat, found by the mark, is dropped and counts as taken.
-pub fn received_setup(
-    c: Control,
-    memory: &mut [u8; 392],
-    pid: bool,
-    sound: bool,
-    s: &[u8],
-) -> Control
+#[tactic(auto, unfolding(crate::specs::Setup::after_setup, choice::specs::Choice::pick))]
+pub fn received_setup(c: Control, memory: &mut Memory, pid: bool, sound: bool, s: &[u8]) -> Control
     ensures { ReceivedSetup pid sound c s.now memory.old result memory.new }
 {
-    let judged = judge_setup(c, pid, sound, s.len());
-    if judged.is_ack() {
-        if c.mark {
-            return c;
-        }
-        return taken(c, memory, s);
+    if !judge_setup(c, pid, sound, s.len()).is_ack() {
+        setup_dropped(c)
+    } else if c.mark {
+        c
+    } else {
+        taken(c, memory, s)
     }
-    setup_dropped(c)
 }
 
 // The state after a SETUP that is taken.
-fn taken(mut c: Control, memory: &mut [u8; 392], s: &[u8]) -> Control
+fn taken(mut c: Control, memory: &mut Memory, s: &[u8]) -> Control
     ensures { TakenSetup c s.now memory.old result memory.new }
 {
-    let mut f = c.fifo.spend();
-    f = f.fill(memory, s);
-    c.fifo = f;
+    c.fifo = c.fifo.spend().fill(memory, s);
     c.last = true;
     c.setup = true;
     c.toggle = false;

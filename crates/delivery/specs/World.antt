@@ -1,6 +1,7 @@
 -- The world: chip, driver and host, the lists that they could write down, and what each action makes of it.
-use Rattle.std.specs.Prelude.{ℕ, ◌-◌, Bool, true, false, not, ◌&&◌, ◌||◌, List, [], ◌∷◌, ◌++◌, length, get_or, eqb, leb}
+use Rattle.std.specs.Prelude.{ℕ, ◌-◌, Bool, true, false, not, ◌&&◌, ◌||◌, List, [], ◌∷◌, ◌++◌, length, get_or, eqb, leb, Result, Ok, Err}
 use Rattle.choice.specs.Choice.{pick}
+use Rattle.refusal.specs.declared.Refusal.{Refusal}
 use Rattle.event.specs.declared.BusEndpoint.{BusEndpoint}
 use Rattle.event.specs.declared.Event.{Event}
 use Rattle.event.specs.declared.Event.TheVariants as event
@@ -81,35 +82,35 @@ held w = if_so w.driver.held (get_or w.lists.offers (length w.lists.offers - 1) 
 
 -- ---- the driver's calls
 
-unfoldable pub is_done : Did → Bool
-is_done did.Done = true
-is_done did.Nothing = false
-is_done did.Delivered = false
-is_done did.Resent = false
-is_done did.Taken = false
-is_done did.Flushed = false
-is_done did.Repeat = false
-is_done (did.Refused r) = false
+unfoldable pub is_done : Result Did Refusal → Bool
+is_done (Ok did.Done) = true
+is_done (Ok did.Nothing) = false
+is_done (Ok did.Delivered) = false
+is_done (Ok did.Resent) = false
+is_done (Ok did.Taken) = false
+is_done (Ok did.Flushed) = false
+is_done (Ok did.Repeat) = false
+is_done (Err r) = false
 
-unfoldable pub is_delivered : Did → Bool
-is_delivered did.Done = false
-is_delivered did.Nothing = false
-is_delivered did.Delivered = true
-is_delivered did.Resent = false
-is_delivered did.Taken = false
-is_delivered did.Flushed = false
-is_delivered did.Repeat = false
-is_delivered (did.Refused r) = false
+unfoldable pub is_delivered : Result Did Refusal → Bool
+is_delivered (Ok did.Done) = false
+is_delivered (Ok did.Nothing) = false
+is_delivered (Ok did.Delivered) = true
+is_delivered (Ok did.Resent) = false
+is_delivered (Ok did.Taken) = false
+is_delivered (Ok did.Flushed) = false
+is_delivered (Ok did.Repeat) = false
+is_delivered (Err r) = false
 
-unfoldable pub is_taken : Did → Bool
-is_taken did.Done = false
-is_taken did.Nothing = false
-is_taken did.Delivered = false
-is_taken did.Resent = false
-is_taken did.Taken = true
-is_taken did.Flushed = false
-is_taken did.Repeat = false
-is_taken (did.Refused r) = false
+unfoldable pub is_taken : Result Did Refusal → Bool
+is_taken (Ok did.Done) = false
+is_taken (Ok did.Nothing) = false
+is_taken (Ok did.Delivered) = false
+is_taken (Ok did.Resent) = false
+is_taken (Ok did.Taken) = true
+is_taken (Ok did.Flushed) = false
+is_taken (Ok did.Repeat) = false
+is_taken (Err r) = false
 
 unfoldable pub called : Call → Lists → World → World
 called x l w = world w.pipes x.model x.driver w.host l

@@ -1,16 +1,16 @@
 -- What a read or a write of the code leaves is the state that the definitions name.
 -- Assumes nothing.
-use Prim.Native.Nat.{ℕ, ◌+◌, ◌<◌}
+use Prim.Native.Nat.{ℕ, ◌+◌, ◌<◌, ◌≤◌}
 use mathlib.Core.Path.{◌≡◌, ap}
 use mathlib.Core.List.{List}
 use lib.ListN.{length, drop, get_or}
 use lib.Seq.{drop-cons}
+use Rattle.std.proofs.lemmas.List.{drop_all}
 use native.Mathlib.Numerals.{add-one}
 use Rattle.state.specs.declared.Chip.{Chip}
 use Rattle.state.specs.State.{Model}
 use Rattle.reads.specs.declared.ReadOut.{ReadOut}
 use Rattle.reads.specs.Read.{read_of}
-use Rattle.writes.specs.Write.{WriteTo}
 use Rattle.driver.specs.Registers.{whole, written, written_all, value, seen, Leaves}
 
 -- a result and the lent memory are the whole state that they leave, and back
@@ -20,18 +20,18 @@ joined l = rw (l.chip, l.bytes)
 pub parted : {m n : Model} → m ≡ n → Leaves n m.chip m.memory
 parted e = record { chip = ap (λ (x : Model). x.chip) e; bytes = ap (λ (x : Model). x.memory) e }
 
--- a write
-pub wrote : {a v : ℕ} {m : Model} {r : Chip} {bytes : List ℕ} → WriteTo a v m.chip m.memory r bytes → whole r bytes ≡ written a v m
-unfolding written
-wrote w = rw (w.state, w.bytes)
-
 -- one byte more written
 pub wrote_one : (a : ℕ) (s : List ℕ) (i : ℕ) (m : Model) → i < length s
     → written_all a (drop i s) m ≡ written_all a (drop (i + 1) s) (written a (get_or s i 0) m)
 unfolding written_all
 wrote_one a s i m h = rw (drop-cons s i 0, add-one i)
 
--- a read, and what goes by what it shows and leaves
+-- no byte left to write
+pub written_none : (a : ℕ) (s : List ℕ) (i : ℕ) (m : Model) → length s ≤ i → written_all a (drop i s) m ≡ m
+unfolding written_all
+written_none a s i m h = rw (drop_all i s h)
+
+-- a read: what it shows, and what it leaves
 module _ (a : ℕ) (m : Model) {r : ReadOut} (e : r ≡ read_of a m.chip m.memory) where
   pub read_value : r.value ≡ value a m
   unfolding value
@@ -40,7 +40,3 @@ module _ (a : ℕ) (m : Model) {r : ReadOut} (e : r ≡ read_of a m.chip m.memor
   pub read_left : whole r.chip m.memory ≡ seen a m
   unfolding seen
   read_left = rw e
-
-  pub read_then : (P : ℕ → Model → Type 0) → P r.value (whole r.chip m.memory) → P (value a m) (seen a m)
-  unfolding value seen
-  read_then P p = rw e at p

@@ -6,22 +6,20 @@ use mathlib.Core.Bool.{Bool, true, false, not}
 use mathlib.Core.List.{List}
 use lib.ListN.{length}
 use lib.Dec.{ltb}
+use Rattle.std.specs.Prelude.{Result, Ok, Err, ⊤}
 use Rattle.choice.specs.Choice.{pick}
 use Rattle.refusal.specs.declared.Refusal.{Refusal}
 use Rattle.refusal.specs.declared.Refusal.TheVariants.{NotWellFormed, OfferTooLong, PacketHeld}
 use Rattle.state.specs.State.{Model}
 use Rattle.formed.specs.Formed.{well_formed}
 use Rattle.driver.specs.declared.Driver.{Driver}
-use Rattle.driver.specs.declared.Did.TheVariants.{Refused}
-use Rattle.driver.specs.declared.Admission.{Admission}
-use Rattle.driver.specs.declared.Admission.TheVariants as offer
 use Rattle.driver.specs.Driver.{refused_with, Call, call, accepted, admission, offered_by, offered}
 
-module _ (P : Call → Type 0) (s : List ℕ) (m : Model) (d : Driver) (refused : (why : Refusal) → P (call m d (Refused why))) (taken : P (accepted s m d)) where
-  by_admission : (x : Admission) → P (offered_by x s m d)
+module _ (P : Call → Type 0) (s : List ℕ) (m : Model) (d : Driver) (refused : (why : Refusal) → P (call m d (Err why))) (taken : P (accepted s m d)) where
+  by_admission : (x : Result ⊤ Refusal) → P (offered_by x s m d)
   unfolding offered_by
-  by_admission offer.Admitted = taken
-  by_admission (offer.Refused why) = refused why
+  by_admission (Ok x) = taken
+  by_admission (Err why) = refused why
 
   pub offer_cases : P (offered s m d)
   unfolding offered
@@ -30,7 +28,7 @@ module _ (P : Call → Type 0) (s : List ℕ) (m : Model) (d : Driver) (refused 
 module _ (s : List ℕ) (m : Model) (d : Driver) where
   by_tests : (a b c : Bool)
       → refused_with
-      (offered_by (pick a (offer.Refused NotWellFormed) (pick b (offer.Refused OfferTooLong) (pick c (offer.Refused PacketHeld) offer.Admitted))) s m d).did
+      (offered_by (pick a (Err NotWellFormed) (pick b (Err OfferTooLong) (pick c (Err PacketHeld) (Ok tt)))) s m d).did
       ≡ pick a 5 (pick b 6 (pick c 7 0))
   unfolding offered_by accepted pick
   by_tests true b c = refl

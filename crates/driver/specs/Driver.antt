@@ -1,8 +1,9 @@
 -- The driver of two bulk pipes: its start, an offer and the send service. Endpoint 1 sends, endpoint 2 receives.
 -- What is quoted is 01.
-use Rattle.std.specs.Prelude.{ℕ, ◌+◌, ◌*◌, ◌≡◌, Bool, true, false, not, ◌&&◌, List, [], length, leb, ltb}
+use Rattle.std.specs.Prelude.{ℕ, ◌+◌, ◌*◌, ◌≡◌, Bool, true, false, not, ◌&&◌, List, [], length, leb, ltb, Result, Ok, Err, ⊤}
 use Rattle.choice.specs.Choice.{pick}
 use Rattle.refusal.specs.Refusal.{number_of}
+use Rattle.refusal.specs.declared.Refusal.{Refusal}
 use Rattle.refusal.specs.declared.Refusal.TheVariants.{OutOfRange, NotWellFormed, OfferTooLong, PacketHeld}
 use Rattle.event.specs.declared.BusEndpoint.{BusEndpoint}
 use Rattle.epc.specs.Bits.{bit_of, has}
@@ -11,31 +12,23 @@ use Rattle.state.specs.State.{Model, reset}
 use Rattle.formed.specs.Formed.{well_formed}
 use Rattle.driver.specs.declared.Driver.{Driver}
 use Rattle.driver.specs.declared.Did.{Did}
-use Rattle.driver.specs.declared.Did.TheVariants.{Done, Nothing, Delivered, Resent, Taken, Flushed, Repeat, Refused}
-use Rattle.driver.specs.declared.Admission.{Admission}
-use Rattle.driver.specs.declared.Admission.TheVariants as offer
+use Rattle.driver.specs.declared.Did.TheVariants.{Done, Nothing, Delivered, Resent}
 use Rattle.driver.specs.declared.Driven.{Driven}
 use Rattle.driver.specs.Registers.{written, written_all, value, seen}
 
 -- 01's number where a call is refused, 0 where it is not
-abbrev pub refused_with : Did → ℕ
-refused_with Done = 0
-refused_with Nothing = 0
-refused_with Delivered = 0
-refused_with Resent = 0
-refused_with Taken = 0
-refused_with Flushed = 0
-refused_with Repeat = 0
-refused_with (Refused why) = number_of why
+abbrev pub refused_with : Result Did Refusal → ℕ
+refused_with (Ok x) = 0
+refused_with (Err why) = number_of why
 
--- both states after a call, what it did, and the bytes that it took
+-- both states after a call, what it did or why it is refused, and the bytes that it took
 pub record Call : Type 0 where
   pub model : Model
   pub driver : Driver
-  pub did : Did
+  pub did : Result Did Refusal
   pub bytes : List ℕ
 
-abbrev pub call : Model → Driver → Did → Call
+abbrev pub call : Model → Driver → Result Did Refusal → Call
 call m d x = record { model = m; driver = d; did = x; bytes = [] }
 
 -- ---- start
@@ -54,7 +47,7 @@ set_up a e f = written 0x2F 0x01 (written 0x2C (0x10 + f.0) (written 0x28 (0x10 
 
 -- "(else 4, with the reset state and a driver that holds nothing)"
 unfoldable pub started : ℕ → BusEndpoint → BusEndpoint → Call
-started a e f = pick (startable a e f) (call (set_up a e f) fresh Done) (call reset fresh (Refused OutOfRange))
+started a e f = pick (startable a e f) (call (set_up a e f) fresh (Ok Done)) (call reset fresh (Err OutOfRange))
 
 -- ---- offer
 
@@ -68,20 +61,20 @@ again toggle = 0x13 + 4 * bit_of toggle
 -- "Offer: bytes to 29, then TXC1 LAST, TX_EN, toggle; packet held."
 unfoldable pub accepted : List ℕ → Model → Driver → Call
 accepted bytes m d =
-    call (written 0x2B (armed d.sends) (written_all 0x29 bytes m)) (record { held = true; sends = d.sends; expects = d.expects }) Done
+    call (written 0x2B (armed d.sends) (written_all 0x29 bytes m)) (record { held = true; sends = d.sends; expects = d.expects }) (Ok Done)
 
 -- "5 before .. 6 and 7; 6 before 7": "5 state not well formed"; "6 driver offered over 64 bytes"; "7 offered while a packet is held"
-unfoldable pub admission : ℕ → Chip → Driver → Admission
+unfoldable pub admission : ℕ → Chip → Driver → Result ⊤ Refusal
 admission count c d =
-    pick (not (well_formed c)) (offer.Refused NotWellFormed)
-    (pick (ltb 64 count) (offer.Refused OfferTooLong)
-    (pick d.held (offer.Refused PacketHeld)
-    offer.Admitted))
+    pick (not (well_formed c)) (Err NotWellFormed)
+    (pick (ltb 64 count) (Err OfferTooLong)
+    (pick d.held (Err PacketHeld)
+    (Ok tt)))
 
 -- a refusal gives "both states as given"
-unfoldable pub offered_by : Admission → List ℕ → Model → Driver → Call
-offered_by offer.Admitted bytes m d = accepted bytes m d
-offered_by (offer.Refused why) bytes m d = call m d (Refused why)
+unfoldable pub offered_by : Result ⊤ Refusal → List ℕ → Model → Driver → Call
+offered_by (Ok x) bytes m d = accepted bytes m d
+offered_by (Err why) bytes m d = call m d (Err why)
 
 unfoldable pub offered : List ℕ → Model → Driver → Call
 offered bytes m d = offered_by (admission (length bytes) m.chip d) bytes m d
@@ -93,13 +86,13 @@ unfoldable pub answered : ℕ → Model → Driver → Call
 answered status m d =
     pick (d.held && has 0x20 status)
     (pick (has 0x40 status)
-    (call m (record { held = false; sends = not d.sends; expects = d.expects }) Delivered)
-    (call (written 0x2B (again d.sends) m) d Resent))
-    (call m d Nothing)
+    (call m (record { held = false; sends = not d.sends; expects = d.expects }) (Ok Delivered))
+    (call (written 0x2B (again d.sends) m) d (Ok Resent)))
+    (call m d (Ok Nothing))
 
 -- "Send service: read 2A"; "5 state not well formed"
 unfoldable pub send_served : Model → Driver → Call
-send_served m d = pick (not (well_formed m.chip)) (call m d (Refused NotWellFormed)) (answered (value 0x2A m) (seen 0x2A m) d)
+send_served m d = pick (not (well_formed m.chip)) (call m d (Err NotWellFormed)) (answered (value 0x2A m) (seen 0x2A m) d)
 
 -- ---- contracts
 

@@ -6,6 +6,7 @@ use mathlib.Core.Path.{◌≡◌, refl, sym, ap, ◌∙◌}
 use mathlib.Core.Logic.{◌≢◌}
 use mathlib.Core.List.{List, [], ◌∷◌, ◌++◌}
 use lib.ListN.{get_or, set}
+use Rattle.std.specs.Prelude.{Ok}
 use borrow.Author.Tests.{ne_eqb}
 use Rattle.choice.specs.Choice.{pick}
 use Rattle.choice.proofs.ByTest.{by_test}
@@ -42,7 +43,7 @@ first l = get_or l 0 reset_receiver
 taken_first : (n : FifoNumber) (l : List Receiver) (m : List ℕ) → Counters (first l).fifo.read (first l).fifo.write
     → level (first l).fifo.read (first l).fifo.write ≢ 0
     → rx_contents n (first l).fifo m
-    ≡ (take_rx n (first l).fifo m).value ∷ rx_contents n (first (set l 0 (take_byte n (first l) m).receiver)).fifo m
+    ≡ (take_rx n (first l).fifo m).value ∷ rx_contents n (first (set l 0 (take_byte n (first l) m).next)).fifo m
 taken_first n [] m c some = absurd {0} (some refl)
 taken_first n (r ∷ l) m c some = (take_rx_some n r.fifo m c some).list
 
@@ -104,7 +105,7 @@ takes_all m count s e = rounds_held 65 count m s (omega (arith, formed_fits m.ch
 
 -- the bytes of a call that took a packet
 abbrev Took : List ℕ → Call → Type 0
-Took bytes x = x.did ≡ Taken → x.bytes ≡ bytes
+Took bytes x = x.did ≡ Ok Taken → x.bytes ≡ bytes
 
 judged_took : (m : Model) (d : Driver) → Sound m → Took (held m) (judged (value 0x2E m) (seen 0x2E m) d)
 unfolding judged flushing accepting
@@ -117,7 +118,7 @@ judged_took m d s =
     (λ _ e. let z : ◌≡◌ {A = ℕ} 0 1 = cc in absurd {0} (omega arith)))
 
 -- A packet that the service takes is what RXFIFO1 held.
-pub packet_taken : (m : Model) (d : Driver) → Sound m → (receive_served m d).did ≡ Taken → (receive_served m d).bytes ≡ held m
+pub packet_taken : (m : Model) (d : Driver) → Sound m → (receive_served m d).did ≡ Ok Taken → (receive_served m d).bytes ≡ held m
 unfolding receive_served
 packet_taken m d s =
     by_test (Took (held m)) _ (λ _ e. let z : ◌≡◌ {A = ℕ} 0 1 = cc in absurd {0} (omega arith)) (λ _. judged_took m d s)

@@ -6,12 +6,14 @@ use mathlib.Core.Path.{◌≡◌, refl}
 use mathlib.Core.Logic.{◌≢◌}
 use mathlib.Core.Bool.{Bool, true, false, not}
 use mathlib.Core.List.{List, []}
+use Rattle.std.specs.Prelude.{Result}
 use Rattle.choice.specs.Choice.{pick}
 use Rattle.choice.proofs.ByTest.{by_test}
 use Rattle.event.specs.declared.BusEndpoint.{BusEndpoint}
 use Rattle.state.specs.State.{Model, reset}
 use Rattle.formed.specs.Formed.{well_formed}
 use Rattle.driver.specs.declared.Driver.{Driver}
+use Rattle.refusal.specs.declared.Refusal.{Refusal}
 use Rattle.driver.specs.declared.Did.{Did}
 use Rattle.driver.specs.Registers.{value, seen}
 use Rattle.driver.specs.Driver.{refused_with, Call, call, fresh, startable, started, accepted, offered, answered, send_served}
@@ -65,7 +67,7 @@ pub record Unchanged (m : Model) (d : Driver) (x : Call) : Type 0 where
 abbrev pub IfRefused : Model → Driver → Call → Type 0
 IfRefused m d x = refused_with x.did ≢ 0 → Unchanged m d x
 
-given : (m : Model) (d : Driver) (x : Did) → IfRefused m d (call m d x)
+given : (m : Model) (d : Driver) (x : Result Did Refusal) → IfRefused m d (call m d x)
 given m d x some = record { model = refl; driver = refl; bytes = refl }
 
 unrefused : (m : Model) (d : Driver) (x : Call) → Number 0 x → IfRefused m d x

@@ -8,7 +8,7 @@ ghost use Rattle.epc.specs.Epc.{reset_epc, epc_of, epc_value, takes};
 
 use event::BusEndpoint;
 
-#[derive(Clone, Copy)]
+#[derive(Clone, Copy, PartialEq, Eq, Default)]
 pub struct Epc {
     pub stall: bool,
     pub iso: bool,
@@ -20,22 +20,14 @@ pub struct Epc {
 pub fn bit(b: bool) -> u8
     ensures { (result ≡ bit_of b) × (result ≤ 1) }
 {
-    if b {
-        return 1;
-    }
-    0
+    u8::from(b)
 }
 
 impl Epc {
     pub fn reset() -> Epc
         ensures { result ≡ reset_epc }
     {
-        Epc {
-            stall: false,
-            iso: false,
-            enabled: false,
-            number: BusEndpoint(0),
-        }
+        Epc::default()
     }
 
     // What a written byte stores; bit 6 is dropped.
@@ -58,15 +50,10 @@ impl Epc {
     }
 
     // Whether it takes a token for a bus endpoint: EP_EN, no ISO, that number.
+    #[tactic(auto, unfolding(crate::specs::Epc::takes))]
     pub fn takes(self, endpoint: BusEndpoint) -> bool
         ensures { result ≡ takes self endpoint }
     {
-        if self.iso {
-            return false;
-        }
-        if self.enabled {
-            return self.number.0 == endpoint.0;
-        }
-        false
+        !self.iso && self.enabled && self.number == endpoint
     }
 }

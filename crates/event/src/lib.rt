@@ -2,12 +2,19 @@
 // The definitions that the contracts cite are in specs/.
 #![tactic(auto)]
 
-ghost use Rattle.std.specs.Prelude.{◌≡◌, ◌&&◌, leb};
+ghost use Rattle.std.specs.Prelude.{◌≡◌, leb};
 ghost use Rattle.event.specs.Event.{in_range};
 
 // A bus endpoint number, 0 to 15, as tokens and the EPC registers have it.
-#[derive(Clone, Copy)]
+#[derive(Clone, Copy, PartialEq, Eq, Default)]
 pub struct BusEndpoint(pub u8);
+
+// A token's address and bus endpoint.
+#[derive(Clone, Copy)]
+pub struct Token {
+    pub address: u8,
+    pub endpoint: BusEndpoint,
+}
 
 // One event: a register access or a bus event. A data event's count is the length of the payload that comes beside it.
 #[derive(Clone, Copy)]
@@ -36,30 +43,16 @@ impl BusEndpoint {
 }
 
 // Whether an event's fields are in range, with a payload of so many bytes beside it: 0 to 64 for data, none for the others.
+#[tactic(auto, unfolding(crate::specs::Event::in_range, crate::specs::Event::values_of, crate::specs::Event::kind_of, crate::specs::Event::ranges, crate::specs::Event::within, crate::specs::Event::count_of, choice::specs::Choice::pick))]
 pub fn in_range(event: Event, count: usize) -> bool
     ensures { result ≡ in_range event count }
 {
     match event {
-        Event::Read(register) => all_within(register, 63, true, count, 0),
-        Event::Write(register, value) => all_within(register, 63, value <= 255, count, 0),
-        Event::In(address, endpoint) => all_within(address, 127, endpoint.within(), count, 0),
-        Event::Out(address, endpoint) => all_within(address, 127, endpoint.within(), count, 0),
-        Event::Setup(address, endpoint) => all_within(address, 127, endpoint.within(), count, 0),
-        Event::Data(pid, sound) => all_within(pid, 1, sound <= 1, count, 64),
-        Event::Ack => count == 0,
-        Event::Timeout => count == 0,
+        Event::Read(register) | Event::Write(register, _) => register <= 63 && count == 0,
+        Event::In(address, endpoint)
+        | Event::Out(address, endpoint)
+        | Event::Setup(address, endpoint) => address <= 127 && endpoint.within() && count == 0,
+        Event::Data(pid, sound) => pid <= 1 && sound <= 1 && count <= 64,
+        Event::Ack | Event::Timeout => count == 0,
     }
-}
-
-// A first field at most its limit, a second one in range, and a count at most its limit.
-fn all_within(a: u8, first: u8, second: bool, count: usize, third: usize) -> bool
-    ensures { result ≡ leb a first && (second && leb count third) }
-{
-    if first < a {
-        return false;
-    }
-    if second {
-        return count <= third;
-    }
-    false
 }

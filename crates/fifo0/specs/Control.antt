@@ -3,9 +3,9 @@
 use Rattle.std.specs.Prelude.{ℕ, ◌+◌, ◌%◌, ◌≡◌, Bool, true, false, ◌||◌, ◌&&◌, not, List, length, leb, ltb, eqb}
 use Rattle.choice.specs.Choice.{pick}
 use Rattle.fifo0.specs.declared.Fifo0.{Fifo0}
-use Rattle.fifo0.specs.declared.Taken0.{Taken0}
 use Rattle.window.specs.declared.Kind.TheVariants.{Control}
 use Rattle.window.specs.Window.{size0, fifo0, start_of}
+use Rattle.ring.specs.declared.Taken.{Taken}
 use Rattle.ring.specs.Ring.{next, level, full, byte_at, store, store_all, contents}
 
 -- "Reset: all zero"; "A flush zeroes all of them"; RXD0 repeats "0 after reset or flush". The bytes in memory stay, unseen
@@ -39,11 +39,11 @@ pub record Put0 (f : Fifo0) (b : ℕ) (m : List ℕ) (r : Fifo0) (m' : List ℕ)
 abbrev pub head0 : Fifo0 → List ℕ → ℕ
 head0 f m = byte_at (start_of Control fifo0) size0 m f.read
 
-unfoldable pub take0 : Fifo0 → List ℕ → Taken0
+unfoldable pub take0 : Fifo0 → List ℕ → Taken Fifo0
 take0 f m =
     pick (eqb (rcount f) 0)
-    (record { fifo = f; value = f.last; taken = false })
-    (record { fifo = record { read = next f.read; write = f.write; last = head0 f m; received = ltb 1 (rcount f) }; value = head0 f m; taken = true })
+    (record { next = f; value = f.last; taken = false })
+    (record { next = record { read = next f.read; write = f.write; last = head0 f m; received = ltb 1 (rcount f) }; value = head0 f m; taken = true })
 
 -- room for so many bytes: "no room (.. on 0 any byte held, or over 8)"
 abbrev pub fits0 : Fifo0 → ℕ → Bool

@@ -5,24 +5,17 @@
 ghost use Rattle.std.specs.Prelude.{◌≡◌};
 ghost use Rattle.fifo0.specs.Control.{reset0, rcount, Put0, take0, fits0, Fill0, spend0};
 
-use window::{FifoNumber, Kind, Window};
+use ring::Taken;
+use window::{FifoNumber, Kind, Memory, Window};
 
 // Bytes to send or, where `received` is set, bytes received; `last` is the byte that RXD0 gave last.
 // With no bytes `received` is clear.
-#[derive(Clone, Copy)]
+#[derive(Clone, Copy, PartialEq, Eq, Default)]
 pub struct Fifo0 {
     pub read: u8,
     pub write: u8,
     pub last: u8,
     pub received: bool,
-}
-
-// What a read of RXD0 gives: the next FIFO, the byte, and whether it was taken by this read.
-#[derive(Clone, Copy)]
-pub struct Taken0 {
-    pub fifo: Fifo0,
-    pub value: u8,
-    pub taken: bool,
 }
 
 // Its window; FIFO0 is the only one of its kind.
@@ -37,60 +30,50 @@ impl Fifo0 {
     pub fn reset() -> Fifo0
         ensures { result ≡ reset0 }
     {
-        Fifo0 {
-            read: 0,
-            write: 0,
-            last: 0,
-            received: false,
-        }
+        Fifo0::default()
     }
 
     // The received bytes held: none while there are bytes to send.
+    #[tactic(auto, unfolding(crate::specs::Control::rcount, choice::specs::Choice::pick))]
     pub fn rcount(self) -> u8
         ensures { result ≡ rcount self }
     {
         if self.received {
-            return ring::level(self.read, self.write);
+            ring::level(self.read, self.write)
+        } else {
+            0
         }
-        0
     }
 
     // Appends a byte to send; ignored while received bytes stand, and when full.
-    pub fn put(mut self, memory: &mut [u8; 392], b: u8) -> Fifo0
+    #[tactic(auto, unfolding(crate::specs::Control::put0, choice::specs::Choice::pick))]
+    pub fn put(mut self, memory: &mut Memory, b: u8) -> Fifo0
         ensures { Put0 self b memory.old result memory.new }
     {
-        if self.rcount() != 0 {
-            return self;
+        if self.rcount() == 0 && 0 < ring::free(Fifo0::SIZE, self.read, self.write) {
+            ring::store(memory, WINDOW, self.write, b);
+            self.write = ring::next(self.write);
+            self.received = false;
         }
-        if ring::free(Fifo0::SIZE, self.read, self.write) == 0 {
-            return self;
-        }
-        ring::store(memory, WINDOW, self.write, b);
-        self.write = ring::next(self.write);
-        self.received = false;
         self
     }
 
     // Takes the first received byte; with none the last one read is given again.
-    pub fn take(mut self, memory: &[u8; 392]) -> Taken0
+    #[tactic(auto, unfolding(crate::specs::Control::take0, choice::specs::Choice::pick))]
+    pub fn take(mut self, memory: &Memory) -> Taken<Fifo0>
         ensures { result ≡ take0 self memory.now }
     {
         let n = self.rcount();
-        if n == 0 {
-            return Taken0 {
-                fifo: self,
-                value: self.last,
-                taken: false,
-            };
+        let taken = n != 0;
+        if taken {
+            self.last = ring::load(memory, WINDOW, self.read);
+            self.read = ring::next(self.read);
+            self.received = 1 < n;
         }
-        let b = ring::load(memory, WINDOW, self.read);
-        self.read = ring::next(self.read);
-        self.last = b;
-        self.received = 1 < n;
-        Taken0 {
-            fifo: self,
-            value: b,
-            taken: true,
+        Taken {
+            next: self,
+            value: self.last,
+            taken,
         }
     }
 
@@ -98,20 +81,17 @@ impl Fifo0 {
     pub fn fits(self, count: usize) -> bool
         ensures { result ≡ fits0 self count }
     {
-        let n = ring::level(self.read, self.write);
-        if n == 0 {
-            return count <= Fifo0::SIZE as usize;
-        }
-        false
+        ring::level(self.read, self.write) == 0 && count <= Fifo0::SIZE as usize
     }
 
     // Stores a whole received packet; where it does not fit, nothing.
-    pub fn fill(mut self, memory: &mut [u8; 392], s: &[u8]) -> Fifo0
+    #[tactic(auto, unfolding(crate::specs::Control::fill0, choice::specs::Choice::pick))]
+    pub fn fill(mut self, memory: &mut Memory, s: &[u8]) -> Fifo0
         ensures { Fill0 self s.now memory.old result memory.new }
     {
         if self.fits(s.len()) {
             self.write = ring::store_all(memory, WINDOW, self.write, s);
-            self.received = 0 < s.len();
+            self.received = !s.is_empty();
         }
         self
     }
@@ -126,13 +106,9 @@ impl Fifo0 {
     }
 
     // Zeroes the counters and the last byte read; the bytes in memory stay.
-    pub fn flush(mut self) -> Fifo0
+    pub fn flush(self) -> Fifo0
         ensures { result ≡ reset0 }
     {
-        self.read = 0;
-        self.write = 0;
-        self.last = 0;
-        self.received = false;
-        self
+        Fifo0::default()
     }
 }

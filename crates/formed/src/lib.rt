@@ -6,156 +6,85 @@ ghost use Rattle.std.specs.Prelude.{◌≡◌};
 ghost use Rattle.formed.specs.Formed.{sends, receives, unheld, flush_beside, held_beside, pending_well, senders_well, receivers_well, registers_well, well_formed};
 
 use state::{Chip, Endpoint, Pending, Wait};
-use window::FifoNumber;
 
+#[tactic(auto, unfolding(crate::specs::Formed::well_formed))]
 pub fn well_formed(c: Chip) -> bool
     ensures { result ≡ well_formed c }
 {
-    let o = settings::operational(c);
-    if c.control.well_formed(o) {
-        if senders(c, o) {
-            if receivers(c, o) {
-                if registers(c) {
-                    return pending(c.pending, o);
-                }
-                return false;
-            }
-            return false;
-        }
-        return false;
-    }
-    false
+    let on = settings::operational(c);
+    c.control.well_formed(on)
+        && senders(c, on)
+        && receivers(c, on)
+        && registers(c)
+        && pending(c.pending, on)
 }
 
+#[tactic(auto, unfolding(crate::specs::Formed::senders_well, window::specs::Window::index_of, choice::specs::Choice::pick))]
 fn senders(c: Chip, operational: bool) -> bool
     ensures { result ≡ senders_well operational c }
 {
-    let mut s = c.sender(FifoNumber(1));
-    if s.well_formed(operational) {
-        s = c.sender(FifoNumber(2));
-        if s.well_formed(operational) {
-            s = c.sender(FifoNumber(3));
-            return s.well_formed(operational);
-        }
-        return false;
-    }
-    false
+    c.senders.iter().all(|s| s.well_formed(operational))
 }
 
+#[tactic(auto, unfolding(crate::specs::Formed::receivers_well, window::specs::Window::index_of, choice::specs::Choice::pick))]
 fn receivers(c: Chip, operational: bool) -> bool
     ensures { result ≡ receivers_well operational c }
 {
-    let mut r = c.receiver(FifoNumber(1));
-    if r.well_formed(operational) {
-        r = c.receiver(FifoNumber(2));
-        if r.well_formed(operational) {
-            r = c.receiver(FifoNumber(3));
-            return r.well_formed(operational);
-        }
-        return false;
-    }
-    false
+    c.receivers.iter().all(|r| r.well_formed(operational))
 }
 
 // NFSR and FAR have no reserved bit set.
+#[tactic(auto, unfolding(crate::specs::Formed::registers_well))]
 fn registers(c: Chip) -> bool
     ensures { result ≡ registers_well c }
 {
-    if c.nfsr < 4 {
-        return c.address < 128;
-    }
-    false
+    c.nfsr < 4 && c.address < 128
 }
 
 // What is awaited, and what is held beside it.
+#[tactic(auto, unfolding(crate::specs::Formed::pending_for))]
 fn pending(p: Pending, operational: bool) -> bool
     ensures { result ≡ pending_well operational p }
 {
-    let w = p.wait;
-    match w {
+    match p.wait {
         Wait::Nothing => unheld(p),
-        Wait::Handshake(e) => {
-            if operational {
-                if sends(e) {
-                    return held_beside(e, p);
-                }
-                return false;
-            }
-            false
-        }
-        Wait::Data(e) => {
-            if operational {
-                if receives(e) {
-                    return unheld(p);
-                }
-                return false;
-            }
-            false
-        }
-        Wait::Setup => {
-            if operational {
-                return unheld(p);
-            }
-            false
-        }
+        Wait::Handshake(e) => operational && sends(e) && held_beside(e, p),
+        Wait::Data(e) => operational && receives(e) && unheld(p),
+        Wait::Setup => operational && unheld(p),
     }
 }
 
+#[tactic(auto, unfolding(crate::specs::Formed::sends))]
 fn sends(e: Endpoint) -> bool
     ensures { result ≡ sends e }
 {
-    let k = e.0;
-    match k {
-        0 => true,
-        1 => true,
-        3 => true,
-        5 => true,
-        _ => false,
-    }
+    matches!(e.0, 0 | 1 | 3 | 5)
 }
 
+#[tactic(auto, unfolding(crate::specs::Formed::receives))]
 fn receives(e: Endpoint) -> bool
     ensures { result ≡ receives e }
 {
-    let k = e.0;
-    match k {
-        0 => true,
-        2 => true,
-        4 => true,
-        6 => true,
-        _ => false,
-    }
+    matches!(e.0, 0 | 2 | 4 | 6)
 }
 
+#[tactic(auto, unfolding(crate::specs::Formed::unheld))]
 fn unheld(p: Pending) -> bool
     ensures { result ≡ unheld p }
 {
-    if p.holds {
-        return false;
-    }
-    if p.flush {
-        return false;
-    }
-    p.held == 0
+    !p.holds && !p.flush && p.held == 0
 }
 
+#[tactic(auto, unfolding(crate::specs::Formed::held_beside))]
 fn held_beside(e: Endpoint, p: Pending) -> bool
     ensures { result ≡ held_beside e p }
 {
-    if p.holds {
-        return flush_beside(e, p);
-    }
-    if p.held == 0 {
-        return flush_beside(e, p);
-    }
-    false
+    (p.holds || p.held == 0) && flush_beside(e, p)
 }
 
+#[tactic(auto, unfolding(crate::specs::Formed::flush_beside))]
 fn flush_beside(e: Endpoint, p: Pending) -> bool
     ensures { result ≡ flush_beside e p }
 {
-    if p.flush {
-        return e.0 == 0;
-    }
-    true
+    !p.flush || e == Endpoint(0)
 }

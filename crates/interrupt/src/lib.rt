@@ -13,75 +13,59 @@ use state::Chip;
 fn shares(a: u8, b: u8) -> bool
     ensures { result ≡ shares a b }
 {
-    let c = a & b;
-    c != 0
+    a & b != 0
 }
 
 // Four flags, by FIFO number, at bits 3..0.
 fn flags(f: [bool; 4]) -> u8
     ensures { (result ≡ flag_of 0 f + 2 * flag_of 1 f + 4 * flag_of 2 f + 8 * flag_of 3 f) × (result ≤ 15) }
 {
-    epc::bit(f[0]) + 2 * epc::bit(f[1]) + 4 * epc::bit(f[2]) + 8 * epc::bit(f[3])
+    let [a, b, c, d] = f;
+    epc::bit(a) + 2 * epc::bit(b) + 4 * epc::bit(c) + 8 * epc::bit(d)
 }
 
 // RX_LAST or RX_ERR of a receive FIFO.
 fn reported(r: Receiver) -> bool
     ensures { bit_of result ≡ reported r }
 {
-    if r.last {
-        return true;
-    }
-    r.err
+    r.last || r.err
 }
 
 pub fn txev(c: Chip) -> u8
     ensures { result ≡ txev c }
 {
-    let z = c.control;
-    let s = c.senders[0];
-    let t = c.senders[1];
-    let u = c.senders[2];
-    flags([z.done, s.done, t.done, u.done]) + 16 * flags([false, s.urun, t.urun, u.urun])
+    let [s, t, u] = c.senders;
+    flags([c.control.done, s.done, t.done, u.done]) + 16 * flags([false, s.urun, t.urun, u.urun])
 }
 
 pub fn rxev(c: Chip) -> u8
     ensures { result ≡ rxev c }
 {
-    let z = c.control;
-    let s = c.receivers[0];
-    let t = c.receivers[1];
-    let u = c.receivers[2];
-    let e = c.events;
-    let o = e.over;
-    flags([z.last, reported(s), reported(t), reported(u)]) + 16 * flags(o)
+    let [s, t, u] = c.receivers;
+    flags([c.control.last, reported(s), reported(t), reported(u)]) + 16 * flags(c.events.over)
 }
 
 pub fn nakev(c: Chip) -> u8
     ensures { result ≡ nakev c }
 {
-    let e = c.events;
-    let i = e.nakin;
-    let o = e.nakout;
-    flags(i) + 16 * flags(o)
+    flags(c.events.nakin) + 16 * flags(c.events.nakout)
 }
 
+#[tactic(auto, unfolding(crate::specs::Interrupt::maev))]
 pub fn maev(c: Chip) -> u8
     ensures { result ≡ maev c }
 {
-    let m = c.masks;
-    let t = shares(txev(c), m.tx);
-    let n = shares(nakev(c), m.nak);
-    let r = shares(rxev(c), m.rx);
-    4 * epc::bit(t) + 16 * epc::bit(n) + 64 * epc::bit(r)
+    let tx = shares(txev(c), c.masks.tx);
+    let nak = shares(nakev(c), c.masks.nak);
+    let rx = shares(rxev(c), c.masks.rx);
+    4 * epc::bit(tx) + 16 * epc::bit(nak) + 64 * epc::bit(rx)
 }
 
-// The interrupt line.
+// The interrupt line; a call for speed, as `step` says.
+#[inline(never)]
+#[tactic(auto, unfolding(crate::specs::Interrupt::line))]
 pub fn line(c: Chip) -> bool
     ensures { result ≡ line c }
 {
-    let m = c.masks;
-    if m.main / 128 % 2 == 1 {
-        return shares(maev(c), m.main % 128);
-    }
-    false
+    c.masks.main / 128 % 2 == 1 && shares(maev(c), c.masks.main % 128)
 }

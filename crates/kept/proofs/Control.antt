@@ -11,9 +11,9 @@ use lib.ListN.{length}
 use lib.Dec.{leb, eqb}
 use borrow.Author.Tests.{leb-true, leb-false, eqb-true, eqb-false, ne_eqb, le-leb, not-true}
 use Rattle.choice.proofs.ByTest.{by_test}
+use Rattle.ring.specs.declared.Taken.{Taken}
 use Rattle.ring.specs.Ring.{level, full}
 use Rattle.fifo0.specs.declared.Fifo0.{Fifo0}
-use Rattle.fifo0.specs.declared.Taken0.{Taken0}
 use Rattle.fifo0.specs.Control.{reset0, rcount, put0, take0, fill0, spend0}
 use Rattle.contents.proofs.Ring.{Counters, level_adds, level_read}
 use Rattle.contents.proofs.Control.{second_false, Canonical0, put0_canonical, take0_canonical, fill0_canonical, spend0_canonical, reset0_canonical}
@@ -84,13 +84,13 @@ module _ (f : Fifo0) (c : Counters f.read f.write) (h : InOrder f) where
   pub put0_in_order : InOrder (put0 f)
   put0_in_order = record { within = put0_within; canonical = put0_canonical f h.canonical }
 
-  take0_within : (m : List ℕ) → level (take0 f m).fifo.read (take0 f m).fifo.write ≤ 8
+  take0_within : (m : List ℕ) → level (take0 f m).next.read (take0 f m).next.write ≤ 8
   unfolding take0
   take0_within m =
-      by_test (λ (r : Taken0). level r.fifo.read r.fifo.write ≤ 8) _ (λ _. h.within) (λ some.
+      by_test (λ (r : Taken Fifo0). level r.next.read r.next.write ≤ 8) _ (λ _. h.within) (λ some.
       omega (arith, level_read f.read f.write c (some_held f (eqb-false _ 0 some)), h.within))
 
-  pub take0_in_order : (m : List ℕ) → InOrder (take0 f m).fifo
+  pub take0_in_order : (m : List ℕ) → InOrder (take0 f m).next
   take0_in_order m = record { within = take0_within m; canonical = take0_canonical f m c h.canonical }
 
   fill0_within : (s : List ℕ) → level (fill0 f s).read (fill0 f s).write ≤ 8
@@ -166,7 +166,7 @@ module _ (operational : Bool) (c : Control) (h : well_formed operational c ≡ t
   pub put_keeps : well_formed operational (with_fifo (put0 c.fifo) c) ≡ true
   put_keeps = well operational _ (put0_in_order c.fifo k (in_order operational c h)) (is_still operational c h)
 
-  pub take_keeps : (m : List ℕ) → well_formed operational (take_data c m).control ≡ true
+  pub take_keeps : (m : List ℕ) → well_formed operational (take_data c m).next ≡ true
   take_keeps m = well operational _ (take0_in_order c.fifo k (in_order operational c h) m) (is_still operational c h)
 
 -- The operational state is left: well formed in it and outside it.

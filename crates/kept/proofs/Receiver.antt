@@ -12,9 +12,9 @@ use lib.Dec.{leb, ltb}
 use borrow.Author.Tests.{leb-true, ltb-true, eqb-false, le-leb, lt-ltb}
 use Rattle.choice.proofs.ByTest.{by_test}
 use Rattle.window.specs.declared.FifoNumber.{FifoNumber}
+use Rattle.ring.specs.declared.Taken.{Taken}
 use Rattle.ring.specs.Ring.{next, level}
 use Rattle.rxfifo.specs.declared.RxFifo.{RxFifo}
-use Rattle.rxfifo.specs.declared.TakenRx.{TakenRx}
 use Rattle.rxfifo.specs.Receive.{take_rx, fill_rx}
 use Rattle.epc.specs.Epc.{epc_of}
 use Rattle.receiver.specs.declared.Receiver.{Receiver}
@@ -68,10 +68,10 @@ fill_fits f bytes c l =
     let fits : level f.read ((f.write + length bytes) % 256) ≤ 64 = omega arith in
     fits) (λ _. l)
 
-take_fits : (n : FifoNumber) (f : RxFifo) (m : List ℕ) → Counters f → Fits f → Fits (take_rx n f m).fifo
+take_fits : (n : FifoNumber) (f : RxFifo) (m : List ℕ) → Counters f → Fits f → Fits (take_rx n f m).next
 unfolding take_rx
 take_fits n f m c l =
-    by_test (λ (t : TakenRx). Fits t.fifo) _ (λ _. l) (λ e.
+    by_test (λ (t : Taken RxFifo). Fits t.next) _ (λ _. l) (λ e.
     let some : level f.read f.write ≢ 0 = eqb-false _ 0 e in
     let fits : level (next f.read) f.write ≤ 64 = omega arith in
     fits)
@@ -105,7 +105,7 @@ command_keeps operational v s w = shown operational _ (command_facts operational
 
 -- So does an RXD read.
 pub take_keeps : (operational : Bool) (n : FifoNumber) (s : Receiver) (m : List ℕ) → Counters s.fifo
-    → well_formed operational s ≡ true → well_formed operational (take_byte n s m).receiver ≡ true
+    → well_formed operational s ≡ true → well_formed operational (take_byte n s m).next ≡ true
 take_keeps operational n s m c w =
     let f : _ = known operational s w in
     shown operational _

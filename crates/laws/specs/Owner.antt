@@ -1,17 +1,16 @@
 -- Which endpoint an event is for, and the events that reach every endpoint, or end what another one awaits.
-use Rattle.std.specs.Prelude.{ℕ, ◌%◌, Bool, true, false, ◌&&◌, ◌||◌, not, eqb, leb}
+use Rattle.std.specs.Prelude.{ℕ, ◌%◌, Bool, true, false, ◌&&◌, ◌||◌, not, eqb, leb, Option, None, Some}
 use Rattle.choice.specs.Choice.{pick}
 use Rattle.event.specs.declared.Event.{Event}
 use Rattle.event.specs.declared.Event.TheVariants as event
 use Rattle.epc.specs.Bits.{odd}
+use Rattle.state.specs.declared.Endpoint.{Endpoint}
 use Rattle.state.specs.declared.Wait.{Wait}
 use Rattle.state.specs.declared.Wait.TheVariants.{Nothing, Handshake, Data, Setup}
 use Rattle.state.specs.declared.Chip.{Chip}
 use Rattle.state.specs.State.{Model}
 use Rattle.slot.specs.Slot.{slot_of}
 use Rattle.settings.specs.Settings.{operational}
-use Rattle.tokens.specs.declared.Match.{Match}
-use Rattle.tokens.specs.declared.Match.TheVariants.{Nobody, Takes}
 use Rattle.tokens.specs.Tokens.{zero_takes, in_mask, out_mask, winner}
 use Rattle.step.specs.Step.{quiet}
 use Rattle.laws.specs.Place.{Place, zero, sends, receives, sending_place, receiving_place, Owner, nobody, one, is_owner, awaited}
@@ -24,13 +23,13 @@ unfoldable pub register_owner : ℕ → Owner
 register_owner a = pick (leb 0x20 a && leb a 0x27) (one zero) (pick (leb 0x28 a && leb a 0x3F) (one (slot_place a)) nobody)
 
 -- "the lowest-numbered of all that match takes the token. No match: silence."
-abbrev pub in_owner : Match → Owner
-in_owner Nobody = nobody
-in_owner (Takes e) = one (sending_place e)
+abbrev pub in_owner : Option Endpoint → Owner
+in_owner None = nobody
+in_owner (Some e) = one (sending_place e)
 
-abbrev pub out_owner : Match → Owner
-out_owner Nobody = nobody
-out_owner (Takes e) = one (receiving_place e)
+abbrev pub out_owner : Option Endpoint → Owner
+out_owner None = nobody
+out_owner (Some e) = one (receiving_place e)
 
 -- "SETUP only on 0."
 unfoldable pub setup_owner : Bool → Owner

@@ -1,5 +1,5 @@
 // The text of one event: its number, the answer and the interrupt line, or its refusal. Each line ends with one LF.
-// A text is written into a lent buffer from a place on, as far as the buffer goes. The definitions that the contracts cite are in specs/.
+// What is written goes into a lent buffer, from a place on, as far as the buffer goes. The definitions that the contracts cite are in specs/.
 #![tactic(auto)]
 
 ghost use Rattle.std.specs.Prelude.{◌≡◌, ◌++◌, ◌+◌, ◌≤◌};
@@ -11,6 +11,7 @@ ghost use Rattle.packet.specs.Packet.{packet_bytes};
 
 use answer::{Answer, Packet};
 use refusal::Refusal;
+use window::Memory;
 
 // No line is longer.
 pub const LONGEST: usize = 158;
@@ -24,20 +25,22 @@ fn word(out: &mut [u8], at: usize, s: &[u8]) -> usize
 }
 
 // Writes a packet's bytes in hex, i places after a place, and `-` for none.
-fn payload(out: &mut [u8], at: usize, i: usize, p: Packet, memory: &[u8; 392]) -> usize
+#[tactic(auto, using(packet::proofs::Turns::packet_most, packet::proofs::Turns::hex_bytes_length, crate::proofs::Lengths::payload_none, crate::proofs::Lengths::payload_some))]
+fn payload(out: &mut [u8], at: usize, i: usize, p: Packet, memory: &Memory) -> usize
     ensures { Printed (at + i) (payload_text (packet_bytes p memory.now)) out.old result out.new }
 {
     let n = packet::count(p, memory);
     if n == 0 {
         digits::put(out, at, i, b'-');
-        return 1;
+        1
+    } else {
+        packet::hex(p, memory, out, at, i);
+        2 * n
     }
-    packet::hex(p, memory, out, at, i);
-    2 * n
 }
 
 // Writes `data0 ` or `data1 ` and a packet's bytes.
-fn data(out: &mut [u8], at: usize, name: &[u8; 6], p: Packet, memory: &[u8; 392]) -> usize
+fn data(out: &mut [u8], at: usize, name: &[u8; 6], p: Packet, memory: &Memory) -> usize
     ensures { Printed at (name.now ++ payload_text (packet_bytes p memory.now)) out.old result out.new }
 {
     digits::text(out, at, 0, name);
@@ -54,7 +57,7 @@ fn value(out: &mut [u8], at: usize, v: u8) -> usize
 }
 
 // Writes an answer, i places after a place, and tells how long it is.
-fn answered(out: &mut [u8], at: usize, i: usize, answer: Answer, memory: &[u8; 392]) -> usize
+fn answered(out: &mut [u8], at: usize, i: usize, answer: Answer, memory: &Memory) -> usize
     ensures { Printed (at + i) (answer_text answer memory.now) out.old result out.new × (result ≤ 134) }
 {
     let from = digits::place(out.len(), at, i);
@@ -74,7 +77,7 @@ fn answered(out: &mut [u8], at: usize, i: usize, answer: Answer, memory: &[u8; 3
 fn level(raised: bool) -> u8
     ensures { result ≡ digit (bit_of raised) }
 {
-    48 + epc::bit(raised)
+    b'0' + epc::bit(raised)
 }
 
 // Writes an event's line, and tells how long it is.
@@ -83,7 +86,7 @@ pub fn line(
     at: usize,
     number: u64,
     answer: Answer,
-    memory: &[u8; 392],
+    memory: &Memory,
     raised: bool,
 ) -> usize
     ensures { Printed at (line_text number answer memory.now raised) out.old result out.new }
@@ -102,8 +105,7 @@ pub fn refusal(out: &mut [u8], at: usize, number: u64, r: Refusal, place: usize)
 {
     let n = digits::decimal(out, at, 0, number);
     digits::text(out, at, n, b" refuse ");
-    let k = 48 + r.number();
-    digits::text(out, at, n + 8, &[k, b' ', b'a', b't', b' ']);
+    digits::text(out, at, n + 8, &[b'0' + r.number(), b' ', b'a', b't', b' ']);
     let e = n + 13;
     let p = digits::decimal(out, at, e, place as u64);
     digits::put(out, at, e + p, b'\n');

@@ -3,6 +3,8 @@
 use Prim.Native.Nat.{ℕ}
 use mathlib.Core.Path.{◌≡◌, sym, ap, ◌∙◌}
 use mathlib.Core.List.{List}
+use Rattle.std.specs.Prelude.{Result}
+use Rattle.refusal.specs.declared.Refusal.{Refusal}
 use Rattle.state.specs.declared.Chip.{Chip}
 use Rattle.driver.specs.declared.Driver.{Driver}
 use Rattle.driver.specs.declared.Did.{Did}
@@ -16,7 +18,7 @@ use Rattle.driver.proofs.offer.Reads as driver-offer
 use Rattle.driver.proofs.send_service.Reads as driver-send_service
 use Rattle.receiving.proofs.receive_service.Reads as receiving-receive_service
 
-abbrev driven_of : Chip → Driver → Did → Driven
+abbrev driven_of : Chip → Driver → Result Did Refusal → Driven
 driven_of c d x = record { chip = c; driver = d; did = x }
 
 abbrev received_of : Driven → ℕ → List ℕ → Received

@@ -5,6 +5,8 @@ use mathlib.Core.Path.{◌≡◌, sym, ◌∙◌}
 use mathlib.Core.List.{List}
 use Rattle.once.proofs.Once.{Once, once, both, same}
 use Rattle.state.specs.declared.Chip.{Chip}
+use Rattle.std.specs.Prelude.{Result}
+use Rattle.trace.specs.declared.Refused.{Refused}
 use Rattle.running.specs.declared.Stop.{Stop}
 use Rattle.running.specs.declared.Ran.{Ran}
 use Rattle.running.specs.Run.{Stopped, Runs}
@@ -51,10 +53,10 @@ lines-line-once = once (λ κ a r s p. same p.count p.bytes)
 pub lines-refusal-once : Once lines-refusal.Post (λ κ r s. both r s.0.now)
 lines-refusal-once = once (λ κ a r s p. same p.count p.bytes)
 
-abbrev ran_of : Chip → ℕ → ℕ → ℕ → Stop → Ran
+abbrev ran_of : Chip → ℕ → ℕ → ℕ → Result Stop Refused → Ran
 ran_of c place number written stop = record { chip = c; place = place; number = number; written = written; stop = stop }
 
-ran : {c c' : Chip} {x x' y y' z z' : ℕ} {w w' : Stop} → c ≡ c' → x ≡ x' → y ≡ y' → z ≡ z' → w ≡ w' → ran_of c x y z w ≡ ran_of c' x' y' z' w'
+ran : {c c' : Chip} {x x' y y' z z' : ℕ} {w w' : Result Stop Refused} → c ≡ c' → x ≡ x' → y ≡ y' → z ≡ z' → w ≡ w' → ran_of c x y z w ≡ ran_of c' x' y' z' w'
 ran p q x y z = cc
 
 runs : {s : Stopped} {r r' : Ran} {m m' o o' : List ℕ} → Runs s r m o → Runs s r' m' o' → both r (both m o) ≡ both r' (both m' o')

@@ -1,13 +1,15 @@
 -- The bytes of a packet: how many they are, and how they are written one after the other.
 -- Assumes nothing.
-use Prim.Native.Nat.{ℕ, zero, suc, ◌+◌, ◌-◌, ◌*◌, ◌≤◌, ◌<◌, min}
+use Prim.Native.Nat.{ℕ, zero, suc, ◌+◌, ◌*◌, ◌%◌, ◌≤◌, ◌<◌, min}
 use native.Mathlib.Omega.{arith}
-use mathlib.Core.Path.{◌≡◌, refl, ap}
+use native.Mathlib.Numerals.{add-one}
+use mathlib.Core.Path.{◌≡◌, refl, sym, ap}
 use mathlib.Core.List.{List, [], ◌∷◌}
-use lib.ListN.{length}
+use lib.ListN.{length, drop, get_or}
+use lib.Seq.{drop-cons}
 use Rattle.window.specs.declared.Kind.{Kind}
 use Rattle.window.specs.declared.Kind.TheVariants.{Control, Transmit, Receive}
-use Rattle.window.specs.Window.{size_of}
+use Rattle.window.specs.Window.{start_of, size_of}
 use Rattle.ring.specs.Ring.{next, byte_at, bytes_from}
 use Rattle.answer.specs.declared.Packet.{Packet}
 use Rattle.digits.specs.Text.{overlay, hex_byte}
@@ -37,20 +39,25 @@ unfolding hex_bytes
 hex_bytes_length [] = refl
 hex_bytes_length (b ∷ bytes) = omega (arith, hex_bytes_length bytes)
 
--- what is left to write after i of n bytes is the byte of the counter, and what is left after one more
-module _ (start size : ℕ) (m : List ℕ) (c at n i : ℕ) (out : List ℕ) (h : i < n) where
-  pub next_byte : overlay (at + i) (bytes_from start size m c (n - i)) out
-      ≡ overlay (at + (i + 1)) (bytes_from start size m (next c) (n - (i + 1))) (overlay (at + i) (byte_at start size m c ∷ []) out)
-  unfolding overlay bytes_from
-  next_byte =
-      let e : n - i ≡ suc (n - (i + 1)) = omega arith in
-      let p : at + (i + 1) ≡ at + i + 1 = omega arith in
-      rw (e, p)
+-- the byte k places after the first is that of the counter k after the first's
+from_byte : (start size : ℕ) (m : List ℕ) (c n k : ℕ) → c < 256 → k < n → get_or (bytes_from start size m c n) k 0 ≡ byte_at start size m ((c + k) % 256)
+unfolding bytes_from
+from_byte start size m c zero k small h = absurd {0} (omega arith)
+from_byte start size m c (suc n) zero small h = let e : (c + 0) % 256 ≡ c = omega arith in rw e
+from_byte start size m c (suc n) (suc k) small h =
+    let e : (next c + k) % 256 ≡ (c + suc k) % 256 = omega arith in
+    rw (from_byte start size m (next c) n k (omega arith) (omega arith), e)
 
-  pub next_hex : overlay (at + 2 * i) (hex_bytes (bytes_from start size m c (n - i))) out
-      ≡ overlay (at + 2 * (i + 1)) (hex_bytes (bytes_from start size m (next c) (n - (i + 1)))) (overlay (at + 2 * i) (hex_byte (byte_at start size m c)) out)
-  unfolding overlay bytes_from hex_bytes
-  next_hex =
-      let e : n - i ≡ suc (n - (i + 1)) = omega arith in
-      let p : at + 2 * (i + 1) ≡ at + 2 * i + 1 + 1 = omega arith in
-      rw (e, p)
+pub packet_byte : (p : Packet) (m : List ℕ) (k : ℕ) → p.from < 256 → k < length (packet_bytes p m)
+    → byte_at (start_of p.window.kind p.window.number) (size_of p.window.kind) m ((p.from + k) % 256) ≡ get_or (packet_bytes p m) k 0
+unfolding packet_bytes
+packet_byte p m k small h = sym (from_byte _ _ m p.from _ k small (omega (arith, packet_length p m)))
+
+-- the digits of the first byte left, and then those of what is left after it
+pub next_hex : (at k : ℕ) (s out : List ℕ) → k < length s
+    → overlay (at + 2 * k) (hex_bytes (drop k s)) out
+    ≡ overlay (at + 2 * (k + 1)) (hex_bytes (drop (k + 1) s)) (overlay (at + 2 * k) (hex_byte (get_or s k 0)) out)
+unfolding overlay hex_bytes
+next_hex at k s out h =
+    let e : at + 2 * (k + 1) ≡ at + 2 * k + 1 + 1 = omega arith in
+    rw (drop-cons s k 0, e, add-one k)

@@ -2,13 +2,12 @@
 -- Assumes nothing.
 use Prim.Native.Nat.{ℕ, zero, suc, ◌+◌, ◌-◌, ◌*◌, ◌/◌, ◌%◌, ◌^◌, ◌≤◌, ◌<◌}
 use native.Mathlib.Omega.{arith}
-use native.Mathlib.Nat.{pow-suc, one-le-pow}
 use mathlib.Core.Path.{◌≡◌, refl, sym, ap, ◌∙◌}
 use mathlib.Core.List.{List, [], ◌∷◌, ◌++◌}
 use lib.ListN.{length, get_or, get_or-append}
 use Rattle.digits.specs.Text.{digit, decimal}
-use Rattle.digits.proofs.Figures.{length_some, length_more}
-use Rattle.digits.proofs.Most.{by_digits, decimal_within}
+use Rattle.digits.proofs.Figures.{length_some}
+use Rattle.digits.proofs.Most.{by_digits, decimal_within, reaches}
 
 pub decimal_length : (n : ℕ) → n < 18446744073709551616 → length (decimal n) ≤ 20
 decimal_length n h = decimal_within n 19 (omega arith)
@@ -18,10 +17,7 @@ decimal_length_5 n h = decimal_within n 4 h
 
 -- A number from a power of ten on has more digits than the power.
 pub decimal_reaches : (k n : ℕ) → 10 ^ k ≤ n → k < length (decimal n)
-decimal_reaches zero n h = length_some n
-decimal_reaches (suc k) n h =
-    let ten : 10 ≤ n = omega (arith, pow-suc 10 k, one-le-pow k 10 (omega arith)) in
-    omega (arith, length_more n ten, decimal_reaches k (n / 10) (omega (arith, pow-suc 10 k)))
+decimal_reaches k n h = reaches k n h
 
 -- every byte of a text is 0 to 9
 abbrev pub Digits : List ℕ → Type 0

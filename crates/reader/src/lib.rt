@@ -1,5 +1,5 @@
 // A reader keeps the lent trace together with its place in it. The functions over it are thin: the work is done by those of `trace`.
-// The two with plain parameters, below, serve every other caller.
+// The two with plain parameters, below, serve callers that have no reader.
 #![tactic(auto)]
 
 ghost use Rattle.std.specs.Prelude.{◌≡◌};
@@ -27,10 +27,7 @@ impl<'a> Reader<'a> {
     pub fn moved(self, place: usize) -> Reader<'a>
         ensures { result ≡ record { trace = self.entry.trace; place = place } }
     {
-        Reader {
-            trace: self.trace,
-            place,
-        }
+        Reader { place, ..self }
     }
 
     // What stands at the place.

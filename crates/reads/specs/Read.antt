@@ -12,6 +12,8 @@ use Rattle.state.specs.State.{sender_at, receiver_at}
 use Rattle.state.specs.Set.{with_control, with_sender, with_receiver, with_events}
 use Rattle.interrupt.specs.Interrupt.{txev, rxev, nakev, maev}
 use Rattle.reads.specs.declared.ReadOut.{ReadOut}
+use Rattle.slot.specs.declared.Register.{Register}
+use Rattle.slot.specs.declared.Register.TheVariants.{Epc, Data, Status, Command}
 use Rattle.slot.specs.Slot.{slot_of}
 
 abbrev pub shown : ℕ → Chip → ReadOut
@@ -41,28 +43,25 @@ control_read a c m =
     pick (eqb a 0x20) (shown (control.epc_value c.control) c)
     (pick (eqb a 0x22) (shown (control.tx_status c.control) (with_control (control.tx_cleared c.control) c))
     (pick (eqb a 0x23) (shown (control.tx_command_value c.control) c)
-    (pick (eqb a 0x25) (shown (control.take_data c.control m).value (with_control (control.take_data c.control m).control c))
+    (pick (eqb a 0x25) (shown (control.take_data c.control m).value (with_control (control.take_data c.control m).next c))
     (pick (eqb a 0x26) (shown (control.rx_status c.control) (with_control (control.rx_cleared c.control) c))
     (pick (eqb a 0x27) (shown (control.rx_command_value c.control) c)
     (shown 0 c))))))
 
 -- the four registers of an endpoint that sends: EPC, TXD, TXS, TXC
-unfoldable pub sender_read : ℕ → FifoNumber → Chip → ReadOut
-sender_read register n c =
-    pick (eqb register 0) (shown (epc.epc_value (sender_at n c).epc) c)
-    (pick (eqb register 2) (shown (sender.status_of (sender_at n c)) (with_sender n (sender.cleared (sender_at n c)) c))
-    (pick (eqb register 3) (shown (sender.command_value (sender_at n c)) c)
-    (shown 0 c)))
+unfoldable pub sender_read : Register → FifoNumber → Chip → ReadOut
+sender_read Epc n c = shown (epc.epc_value (sender_at n c).epc) c
+sender_read Data n c = shown 0 c
+sender_read Status n c = shown (sender.status_of (sender_at n c)) (with_sender n (sender.cleared (sender_at n c)) c)
+sender_read Command n c = shown (sender.command_value (sender_at n c)) c
 
 -- the four registers of an endpoint that receives: EPC, RXD, RXS, RXC
-unfoldable pub receiver_read : ℕ → FifoNumber → Chip → List ℕ → ReadOut
-receiver_read register n c m =
-    pick (eqb register 0) (shown (epc.epc_value (receiver_at n c).epc) c)
-    (pick (eqb register 1)
-    (shown (receiver.take_byte n (receiver_at n c) m).value (with_receiver n (receiver.take_byte n (receiver_at n c) m).receiver c))
-    (pick (eqb register 2) (shown (receiver.status_of (receiver_at n c)) (with_receiver n (receiver.cleared (receiver_at n c)) c))
-    (pick (eqb register 3) (shown (receiver.command_value (receiver_at n c)) c)
-    (shown 0 c))))
+unfoldable pub receiver_read : Register → FifoNumber → Chip → List ℕ → ReadOut
+receiver_read Epc n c m = shown (epc.epc_value (receiver_at n c).epc) c
+receiver_read Data n c m =
+    shown (receiver.take_byte n (receiver_at n c) m).value (with_receiver n (receiver.take_byte n (receiver_at n c) m).next c)
+receiver_read Status n c m = shown (receiver.status_of (receiver_at n c)) (with_receiver n (receiver.cleared (receiver_at n c)) c)
+receiver_read Command n c m = shown (receiver.command_value (receiver_at n c)) c
 
 abbrev pub endpoint_read : ℕ → Chip → List ℕ → ReadOut
 endpoint_read a c m =

@@ -4,6 +4,7 @@ use Rattle.std.specs.Prelude.{ℕ, ◌+◌, ◌*◌, ◌/◌, ◌%◌, min, ◌�
 use Rattle.choice.specs.Choice.{pick}
 use Rattle.window.specs.declared.FifoNumber.{FifoNumber}
 use Rattle.window.specs.Window.{rx_size}
+use Rattle.ring.specs.declared.Taken.{Taken}
 use Rattle.ring.specs.Ring.{level}
 use Rattle.rxfifo.specs.declared.RxFifo.{RxFifo}
 use Rattle.rxfifo.specs.Receive.{reset_rx, take_rx, fits_rx, fill_rx, fill_rx_bytes}
@@ -13,7 +14,6 @@ use Rattle.verdict.specs.declared.Judged.{Judged}
 use Rattle.verdict.specs.declared.Judged.TheVariants.{Silence, Nak, Stall, Overrun, Ack}
 use Rattle.verdict.specs.Verdict.{heard}
 use Rattle.receiver.specs.declared.Receiver.{Receiver}
-use Rattle.receiver.specs.declared.TakenByte.{TakenByte}
 
 -- "Reset: all zero"
 abbrev pub reset_receiver : Receiver
@@ -96,10 +96,10 @@ abbrev pub command : Bool → ℕ → Receiver → Receiver
 command operational v s = with_bits (v / 32 % 4) (has 4 v) (operational && odd v) (flushed v s)
 
 -- "RXD read takes a byte; with none it repeats the last one read, 0 after reset or flush"
-abbrev pub take_byte : FifoNumber → Receiver → List ℕ → TakenByte
+abbrev pub take_byte : FifoNumber → Receiver → List ℕ → Taken Receiver
 take_byte n s m =
     record {
-      receiver = with_fifo (take_rx n s.fifo m).fifo s;
+      next = with_fifo (take_rx n s.fifo m).next s;
       value = (take_rx n s.fifo m).value;
       taken = (take_rx n s.fifo m).taken;
     }

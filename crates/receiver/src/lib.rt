@@ -8,13 +8,14 @@ ghost use Rattle.receiver.specs.Receiver.{judged, good, damaged, ReceivedData, s
 ghost use Rattle.choice.specs.Choice.{pick};
 
 use epc::Epc;
+use ring::Taken;
 use rxfifo::RxFifo;
 use verdict::Judged;
-use window::FifoNumber;
+use window::{FifoNumber, Memory};
 
 // `err`, `setup`, `toggle`, `last` are RX_ERR, SETUP, TOGGLE and RX_LAST of RXS; `middle` is RXC 6..5, `ignore` IGN_SETUP, `enabled` RX_EN.
 // Nothing here sets SETUP, but a state may have it.
-#[derive(Clone, Copy)]
+#[derive(Clone, Copy, PartialEq, Eq, Default)]
 pub struct Receiver {
     pub fifo: RxFifo,
     pub epc: Epc,
@@ -27,46 +28,22 @@ pub struct Receiver {
     pub enabled: bool,
 }
 
-// What a read of RXD gives: the next state, the byte, and whether it was taken by this read.
-#[derive(Clone, Copy)]
-pub struct TakenByte {
-    pub receiver: Receiver,
-    pub value: u8,
-    pub taken: bool,
-}
-
 impl Receiver {
     pub fn reset() -> Receiver
         ensures { result ≡ reset_receiver }
     {
-        let fifo = RxFifo::reset();
-        let epc = Epc::reset();
-        Receiver {
-            fifo,
-            epc,
-            err: false,
-            setup: false,
-            toggle: false,
-            last: false,
-            middle: 0,
-            ignore: false,
-            enabled: false,
-        }
+        Receiver::default()
     }
 
     // What a read of RXS shows.
     pub fn status(self) -> u8
         ensures { result ≡ status_of self }
     {
-        let n = ring::level(self.fifo.read, self.fifo.write);
-        let flags = 128 * epc::bit(self.err)
+        128 * epc::bit(self.err)
             + 64 * epc::bit(self.setup)
             + 32 * epc::bit(self.toggle)
-            + 16 * epc::bit(self.last);
-        if n <= 15 {
-            return flags + n;
-        }
-        flags + 15
+            + 16 * epc::bit(self.last)
+            + ring::level(self.fifo.read, self.fifo.write).min(15)
     }
 
     // A read of RXS clears its flags.
@@ -94,61 +71,56 @@ impl Receiver {
         self = self.flushed(v);
         self.middle = v / 32 % 4;
         self.ignore = v / 4 % 2 == 1;
-        self.enabled = false;
-        if operational {
-            self.enabled = v % 2 == 1;
-        }
+        self.enabled = operational && v % 2 == 1;
         self
     }
 
     // FLUSH of an RXC byte.
+    #[tactic(auto, unfolding(crate::specs::Receiver::flushed, choice::specs::Choice::pick))]
     fn flushed(mut self, v: u8) -> Receiver
         ensures { result ≡ flushed v self }
     {
         if v / 8 % 2 == 1 {
-            let f = self.fifo.flush();
-            self.fifo = f;
+            self.fifo = self.fifo.flush();
         }
         self
     }
 
     // A read of RXD.
-    pub fn take(mut self, memory: &[u8; 392], number: FifoNumber) -> TakenByte
+    pub fn take(mut self, memory: &Memory, number: FifoNumber) -> Taken<Receiver>
         ensures { result ≡ take_byte number self memory.now }
     {
         let t = self.fifo.take(memory, number);
-        let f = t.fifo;
-        self.fifo = f;
-        TakenByte {
-            receiver: self,
+        self.fifo = t.next;
+        Taken {
+            next: self,
             value: t.value,
             taken: t.taken,
         }
     }
 
     // What it answers to data after an OUT token that it took.
+    #[tactic(auto, unfolding(crate::specs::Receiver::judged, verdict::specs::Verdict::heard, choice::specs::Choice::pick))]
     pub fn judge(self, sound: bool, count: usize) -> Judged
         ensures { result ≡ judged sound count self }
     {
-        if sound {
-            if self.enabled {
-                if self.epc.stall {
-                    return Judged::Stall;
-                }
-                if self.fifo.fits(count) {
-                    return Judged::Ack;
-                }
-                return Judged::Overrun;
-            }
-            return Judged::Nak;
-        }
-        Judged::Silence
+        let judged = if !self.enabled {
+            Judged::Nak
+        } else if self.epc.stall {
+            Judged::Stall
+        } else if self.fifo.fits(count) {
+            Judged::Ack
+        } else {
+            Judged::Overrun
+        };
+        judged.heard(sound)
     }
 
     // The state and the memory after that data.
+    #[tactic(auto, unfolding(crate::specs::Receiver::received, crate::specs::Receiver::received_bytes, choice::specs::Choice::pick))]
     pub fn received(
         mut self,
-        memory: &mut [u8; 392],
+        memory: &mut Memory,
         number: FifoNumber,
         pid: bool,
         sound: bool,
@@ -156,29 +128,21 @@ impl Receiver {
     ) -> Receiver
         ensures { ReceivedData number pid sound s.now self memory.old result memory.new }
     {
-        if self.enabled {
-            if self.epc.stall {
-                if sound {
-                    self.enabled = false;
-                }
-                return self;
-            }
-            if self.fifo.fits(s.len()) {
-                if sound {
-                    if s.len() == 0 {
-                        self.enabled = false;
-                        return self;
-                    }
-                }
-                let f = self.fifo.fill(memory, number, s);
-                self.fifo = f;
-                return self.noted(pid, sound);
-            }
+        let room = self.enabled && self.fifo.fits(s.len());
+        if self.enabled && self.epc.stall {
+            // answered, and RX_EN cleared, for sound data only
+            self.enabled = !sound;
+        } else if room && sound && s.is_empty() {
+            self.enabled = false;
+        } else if room {
+            self.fifo = self.fifo.fill(memory, number, s);
+            self = self.noted(pid, sound);
         }
         self
     }
 
     // The flags after data that is stored.
+    #[tactic(auto, unfolding(choice::specs::Choice::pick))]
     fn noted(mut self, pid: bool, sound: bool) -> Receiver
         ensures { result ≡ pick sound (good pid self) (damaged self) }
     {
@@ -186,9 +150,9 @@ impl Receiver {
         if sound {
             self.toggle = pid;
             self.last = true;
-            return self;
+        } else {
+            self.err = true;
         }
-        self.err = true;
         self
     }
 
@@ -201,21 +165,13 @@ impl Receiver {
     }
 
     // Whether a state is one that 01 allows: asked before a step.
+    #[tactic(auto, unfolding(crate::specs::Receiver::well_formed))]
     pub fn well_formed(self, operational: bool) -> bool
         ensures { result ≡ well_formed operational self }
     {
-        if RxFifo::SIZE < ring::level(self.fifo.read, self.fifo.write) {
-            return false;
-        }
-        if 4 <= self.middle {
-            return false;
-        }
-        if 16 <= self.epc.number.0 {
-            return false;
-        }
-        if operational {
-            return true;
-        }
-        !self.enabled
+        ring::level(self.fifo.read, self.fifo.write) <= RxFifo::SIZE
+            && self.middle < 4
+            && self.epc.number.within()
+            && (operational || !self.enabled)
     }
 }

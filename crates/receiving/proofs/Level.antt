@@ -12,9 +12,9 @@ use Rattle.choice.specs.Choice.{pick}
 use Rattle.choice.proofs.ByTest.{by_test}
 use Rattle.window.specs.declared.FifoNumber.{FifoNumber}
 use Rattle.window.specs.Window.{index_of, numbered}
+use Rattle.ring.specs.declared.Taken.{Taken}
 use Rattle.ring.specs.Ring.{next, level}
 use Rattle.rxfifo.specs.declared.RxFifo.{RxFifo}
-use Rattle.rxfifo.specs.declared.TakenRx.{TakenRx}
 use Rattle.rxfifo.specs.Receive.{take_rx}
 use Rattle.receiver.specs.declared.Receiver.{Receiver}
 use Rattle.receiver.specs.Receiver.{reset_receiver, cleared, take_byte}
@@ -35,10 +35,10 @@ abbrev level_of : Receiver → ℕ
 level_of r = level r.fifo.read r.fifo.write
 
 -- one taken, if there is one
-take_level : (n : FifoNumber) (f : RxFifo) (m : List ℕ) → level (take_rx n f m).fifo.read (take_rx n f m).fifo.write ≡ level f.read f.write - 1
+take_level : (n : FifoNumber) (f : RxFifo) (m : List ℕ) → level (take_rx n f m).next.read (take_rx n f m).next.write ≡ level f.read f.write - 1
 unfolding take_rx
 take_level n f m =
-    by_test (λ (t : TakenRx). level t.fifo.read t.fifo.write ≡ level f.read f.write - 1) _
+    by_test (λ (t : Taken RxFifo). level t.next.read t.next.write ≡ level f.read f.write - 1) _
     (λ e. let none : level f.read f.write ≡ 0 = eqb-true _ 0 e in omega arith)
     (λ e. let some : level f.read f.write ≡ 0 → ⊥ = eqb-false _ 0 e in
     let less : level (next f.read) f.write ≡ level f.read f.write - 1 = omega arith in
@@ -46,7 +46,7 @@ take_level n f m =
 
 -- the first receiver after a read of its RXD, of its RXS
 taken_first : (n : FifoNumber) (l : List Receiver) (m : List ℕ)
-    → level_of (get_or (set l 0 (take_byte n (get_or l 0 reset_receiver) m).receiver) 0 reset_receiver) ≡ level_of (get_or l 0 reset_receiver) - 1
+    → level_of (get_or (set l 0 (take_byte n (get_or l 0 reset_receiver) m).next) 0 reset_receiver) ≡ level_of (get_or l 0 reset_receiver) - 1
 taken_first n [] m = refl
 taken_first n (r ∷ l) m = take_level n r.fifo m
 

@@ -4,9 +4,11 @@ use Prim.Native.Nat.{ℕ, zero, suc, ◌+◌, ◌-◌, ◌%◌, ◌≤◌, ◌<�
 use native.Mathlib.Omega.{arith}
 use native.Mathlib.Nat.{add-zero}
 use mathlib.Core.Path.{◌≡◌, refl, sym, ap, ◌∙◌, subst}
-use mathlib.Core.List.{List, [], ◌∷◌, ◌++◌}
-use lib.ListN.{length, drop, replicate, length-append}
-use lib.Seq.{sets, sets-eq}
+use mathlib.Core.List.{List, [], ◌∷◌, ◌++◌, append-nil, append_assoc}
+use lib.ListN.{length, take, drop, replicate, length-append, length-drop}
+use lib.Seq.{sets, sets-eq, drop-drop, length-take-le}
+use borrow.Rule.Slice.PartMut.{mid_of, put_mid}
+use Rattle.std.proofs.lemmas.List.{drop_all}
 use borrow.Author.Tests.{ne_eqb}
 use Rattle.choice.specs.Choice.{pick}
 use Rattle.state.specs.declared.Chip.{Chip}
@@ -36,6 +38,26 @@ stored_padded : (bytes : List ℕ) → length bytes ≤ 64 → sets (replicate 6
 stored_padded bytes le =
     let e : 64 - (0 + length bytes) ≡ 64 - length bytes = omega arith in
     sets-eq bytes (replicate 64 0) 0 (omega arith) ∙ rw (drop_zeros 64 (0 + length bytes), e)
+
+-- bytes stored all over the part of a list that is lent out, from place at on
+module _ (p : List ℕ) (at n k : ℕ) (room : at + n ≤ length p) (e : k ≡ n) where
+  part_length : length (mid_of at k p) ≡ n
+  part_length = length-take-le k (drop at p) (omega (arith, length-drop at p)) ∙ e
+
+  part_stored : (bytes : List ℕ) → length bytes ≡ n → put_mid at k p (sets (mid_of at k p) 0 bytes) ≡ sets p at bytes
+  part_stored bytes b =
+      let none : drop (0 + length bytes) (mid_of at k p) ≡ [] = drop_all _ (mid_of at k p) (omega (arith, part_length)) in
+      let all : sets (mid_of at k p) 0 bytes ≡ bytes =
+      sets-eq bytes (mid_of at k p) 0 (omega (arith, part_length)) ∙ rw none (append-nil bytes) in
+      let q : at + k ≡ at + length bytes = omega arith in
+      rw (all, drop-drop k at p, q) (sym (append_assoc (take at p) bytes (drop (at + length bytes) p)) ∙ sym (sets-eq bytes p at (omega arith)))
+
+  -- What is taken into that part is taken into the list.
+  pub part_fills : (m : Model) {memory places : List ℕ} {c : Chip} → Fills (taken (length (mid_of at k p)) m) 0 memory (mid_of at k p) c places
+      → Fills (taken n m) at memory p c (put_mid at k p places)
+  part_fills m f =
+      let g : _ = rw part_length at f in
+      record { left = g.left; packet = ap (put_mid at k p) g.packet ∙ part_stored (taken n m).bytes (taken_length n m) }
 
 -- no round where none is shown; one round and the others
 rounds_none : (most : ℕ) (m : Model) → rounds most 0 m ≡ taking [] m

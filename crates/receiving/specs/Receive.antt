@@ -1,8 +1,9 @@
 -- The driver's receive service: RXS is read, and a packet is taken or flushed.
 -- What is quoted is 01.
-use Rattle.std.specs.Prelude.{ℕ, zero, suc, ◌-◌, ◌/◌, ◌%◌, ◌≤◌, min, ◌≡◌, not, List, [], ◌∷◌, ◌++◌, length, replicate, eqb}
+use Rattle.std.specs.Prelude.{ℕ, zero, suc, ◌-◌, ◌/◌, ◌%◌, ◌≤◌, min, ◌≡◌, not, List, [], ◌∷◌, ◌++◌, length, replicate, eqb, Result, Ok, Err}
 use Rattle.std.proofs.lemmas.List.Edits.{sets}
 use Rattle.choice.specs.Choice.{pick}
+use Rattle.refusal.specs.declared.Refusal.{Refusal}
 use Rattle.refusal.specs.declared.Refusal.TheVariants.{NotWellFormed}
 use Rattle.ring.specs.Ring.{level}
 use Rattle.epc.specs.Bits.{bit_of, has}
@@ -12,7 +13,7 @@ use Rattle.window.specs.Window.{numbered}
 use Rattle.formed.specs.Formed.{well_formed}
 use Rattle.driver.specs.declared.Driver.{Driver}
 use Rattle.driver.specs.declared.Did.{Did}
-use Rattle.driver.specs.declared.Did.TheVariants.{Nothing, Taken, Flushed, Repeat, Refused}
+use Rattle.driver.specs.declared.Did.TheVariants.{Nothing, Taken, Flushed, Repeat}
 use Rattle.driver.specs.Registers.{written, value, seen, Leaves}
 use Rattle.driver.specs.Driver.{Call, call, Calls}
 use Rattle.receiving.specs.declared.Drained.{Drained}
@@ -52,7 +53,7 @@ all_taken count m = rounds 65 count m
 
 -- RXC at 2F: "RX_EN (2F gets 09 to flush, else 01)"
 unfoldable pub flushing : Did → Model → Driver → Call
-flushing why m d = call (written 0x2F 0x09 m) d why
+flushing why m d = call (written 0x2F 0x09 m) d (Ok why)
 
 -- "take all bytes and flip"
 unfoldable pub accepting : Taking → Driver → Call
@@ -60,7 +61,7 @@ accepting t d =
     record {
       model = written 0x2F 0x01 t.model;
       driver = record { held = d.held; sends = d.sends; expects = not d.expects };
-      did = Taken;
+      did = Ok Taken;
       bytes = t.bytes;
     }
 
@@ -71,11 +72,11 @@ judged status m d =
     pick (has 0x80 status) (flushing Flushed m d)
     (pick (has 0x10 status)
     (pick (eqb (status / 0x20 % 2) (bit_of d.expects)) (accepting (all_taken (status % 16) m) d) (flushing Repeat m d))
-    (call m d Nothing))
+    (call m d (Ok Nothing)))
 
 -- "Receive service: read 2E"; "the flags are the first read's"; "5 state not well formed"
 unfoldable pub receive_served : Model → Driver → Call
-receive_served m d = pick (not (well_formed m.chip)) (call m d (Refused NotWellFormed)) (judged (value 0x2E m) (seen 0x2E m) d)
+receive_served m d = pick (not (well_formed m.chip)) (call m d (Err NotWellFormed)) (judged (value 0x2E m) (seen 0x2E m) d)
 
 -- ---- contracts
 
@@ -90,7 +91,7 @@ pub record Receives (x : Call) (r : Received) (memory : List ℕ) : Type 0 where
   pub packet : r.packet ≡ padded x.bytes
 
 -- a result without a packet
-abbrev pub without : Chip → Driver → Did → Received
+abbrev pub without : Chip → Driver → Result Did Refusal → Received
 without c d x = record { driven = record { chip = c; driver = d; did = x }; count = 0; packet = replicate 64 0 }
 
 -- bytes taken into a packet from a place on

@@ -2,13 +2,21 @@
 // A call on a state that is not well formed is refused with 5 and changes nothing. The definitions that the contracts cite are in specs/.
 #![tactic(auto)]
 
-ghost use Rattle.std.specs.Prelude.{◌≡◌, ◌+◌, ◌%◌, ◌≤◌};
+ghost use Rattle.std.specs.Prelude.{◌≡◌, ◌%◌, length};
 ghost use Rattle.driver.specs.Registers.{whole};
 ghost use Rattle.receiving.specs.Receive.{taken, all_taken, accepting, flushing, judged, receive_served, without, Receives, Fills, Drains, Shows};
 
 use driver::{Did, Driven, Driver};
 use refusal::Refusal;
 use state::Chip;
+use window::Memory;
+
+// The registers that it reads and writes.
+const RXD1: u8 = 0x2D;
+
+const RXS1: u8 = 0x2E;
+
+const RXC1: u8 = 0x2F;
 
 // What the call did, and the packet that it took: so many bytes, unused ones 0.
 #[derive(Clone, Copy)]
@@ -26,89 +34,101 @@ struct Drained {
     packet: [u8; 64],
 }
 
+// The chip, and what RXS showed of it.
+#[derive(Clone, Copy)]
+struct Seen {
+    chip: Chip,
+    status: u8,
+    ghost shows: { Shows (status % 16) chip },
+}
+
 // What endpoint 2 received.
-pub fn receive_service(c: Chip, d: Driver, memory: &mut [u8; 392]) -> Received
+#[tactic(auto, unfolding(crate::specs::Receive::receive_served, driver::specs::Registers::value, driver::specs::Registers::seen, choice::specs::Choice::pick))]
+pub fn receive_service(c: Chip, d: Driver, memory: &mut Memory) -> Received
     ensures { Receives (receive_served (whole c memory.old) d) result memory.new }
 {
-    if formed::well_formed(c) {
-        let r = reads::read(c, memory, 0x2E);
-        return judged(r.chip, d, memory, r.value);
+    if !formed::well_formed(c) {
+        return without(c, d, Err(Refusal::NotWellFormed));
     }
-    without(c, d, Did::Refused(Refusal::NotWellFormed))
+    let r = reads::read(c, memory, RXS1);
+    let seen = Seen {
+        chip: r.chip,
+        status: r.value,
+    };
+    judged(seen, d, memory)
 }
 
 // By RXS: RX_ERR, then RX_LAST, then TOGGLE.
-fn judged(c: Chip, d: Driver, memory: &mut [u8; 392], status: u8) -> Received
-    requires { Shows (status % 16) c }
-    ensures { Receives (judged status (whole c memory.old) d) result memory.new }
+#[tactic(auto, unfolding(crate::specs::Receive::judged, choice::specs::Choice::pick))]
+fn judged(seen: Seen, d: Driver, memory: &mut Memory) -> Received
+    ensures { Receives (judged seen.status (whole seen.chip memory.old) d) result memory.new }
 {
-    if status / 128 % 2 == 1 {
-        return flush(c, d, memory, Did::Flushed);
+    if seen.status / 128 % 2 == 1 {
+        flush(seen.chip, d, memory, Did::Flushed)
+    } else if seen.status / 16 % 2 == 0 {
+        without(seen.chip, d, Ok(Did::Nothing))
+    } else if seen.status / 32 % 2 == epc::bit(d.expects) {
+        accept(seen, d, memory)
+    } else {
+        flush(seen.chip, d, memory, Did::Repeat)
     }
-    if status / 16 % 2 == 1 {
-        if status / 32 % 2 == epc::bit(d.expects) {
-            return accept(c, d, memory, status % 16);
-        }
-        return flush(c, d, memory, Did::Repeat);
-    }
-    without(c, d, Did::Nothing)
 }
 
 // No packet.
-fn without(c: Chip, d: Driver, did: Did) -> Received
-    ensures { result ≡ without c d did }
+fn without(chip: Chip, driver: Driver, did: Result<Did, Refusal>) -> Received
+    ensures { result ≡ without chip driver did }
 {
     Received {
-        driven: Driven {
-            chip: c,
-            driver: d,
-            did,
-        },
+        driven: Driven { chip, driver, did },
         count: 0,
         packet: [0u8; 64],
     }
 }
 
 // FLUSH, and RX_EN for the next packet.
-fn flush(mut c: Chip, d: Driver, memory: &mut [u8; 392], why: Did) -> Received
+#[tactic(auto, unfolding(crate::specs::Receive::flushing, driver::specs::Registers::written))]
+fn flush(mut c: Chip, d: Driver, memory: &mut Memory, why: Did) -> Received
     ensures { Receives (flushing why (whole c memory.old) d) result memory.new }
 {
-    c = writes::write(c, memory, 0x2F, 0x09);
-    without(c, d, why)
+    c = writes::write(c, memory, RXC1, 0x09);
+    without(c, d, Ok(why))
 }
 
 // All bytes, the toggle flipped, and RX_EN for the next packet.
-fn accept(mut c: Chip, mut d: Driver, memory: &mut [u8; 392], count: u8) -> Received
-    requires { Shows count c }
-    ensures { Receives (accepting (all_taken count (whole c memory.old)) d) result memory.new }
+#[tactic(auto, unfolding(crate::specs::Receive::accepting, driver::specs::Registers::written))]
+fn accept(seen: Seen, mut d: Driver, memory: &mut Memory) -> Received
+    ensures { Receives (accepting (all_taken (seen.status % 16) (whole seen.chip memory.old)) d) result memory.new }
 {
-    let t = take_all(c, memory, count);
-    c = writes::write(t.chip, memory, 0x2F, 0x01);
+    let Drained {
+        chip,
+        count,
+        packet,
+    } = take_all(seen, memory);
     d.expects = !d.expects;
-    let packet = t.packet;
     Received {
         driven: Driven {
-            chip: c,
+            chip: writes::write(chip, memory, RXC1, 0x01),
             driver: d,
-            did: Did::Taken,
+            did: Ok(Did::Taken),
         },
-        count: t.count,
+        count,
         packet,
     }
 }
 
 // As many bytes as RXS showed, and again until it shows none.
-fn take_all(mut c: Chip, memory: &[u8; 392], count: u8) -> Drained
-    requires { Shows count c }
-    ensures { Drains (all_taken count (whole c memory.now)) memory.now result }
+fn take_all(seen: Seen, memory: &Memory) -> Drained
+    ensures { Drains (all_taken (seen.status % 16) (whole seen.chip memory.now)) memory.now result }
 {
+    let mut c = seen.chip;
     let mut packet = [0u8; 64];
     let mut got = 0usize;
-    let mut shown = count;
+    let mut shown = seen.status % 16;
     while 0 < shown {
-        c = take(c, memory, &mut packet, got, shown);
-        got += shown as usize;
-        let r = reads::read(c, memory, 0x2E);
+        let end = got + shown as usize;
+        c = take(c, memory, &mut packet[got..end]);
+        got = end;
+        let r = reads::read(c, memory, RXS1);
         c = r.chip;
         shown = r.value % 16;
     }
@@ -119,17 +139,14 @@ fn take_all(mut c: Chip, memory: &[u8; 392], count: u8) -> Drained
     }
 }
 
-// So many bytes from RXD to the packet, from a place on.
-fn take(mut c: Chip, memory: &[u8; 392], packet: &mut [u8; 64], at: usize, count: u8) -> Chip
-    requires { at + count ≤ 64 }
-    ensures { Fills (taken count (whole c memory.now)) at memory.now packet.old result packet.new }
+// A byte from RXD to each place.
+fn take(mut c: Chip, memory: &Memory, places: &mut [u8]) -> Chip
+    ensures { Fills (taken (length places.old) (whole c memory.now)) 0 memory.now places.old result places.new }
 {
-    let mut i = 0u8;
-    while i < count {
-        let r = reads::read(c, memory, 0x2D);
-        packet[at + i as usize] = r.value;
+    for place in places.iter_mut() {
+        let r = reads::read(c, memory, RXD1);
+        *place = r.value;
         c = r.chip;
-        i += 1;
     }
     c
 }

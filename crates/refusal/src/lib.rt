@@ -6,9 +6,9 @@ ghost use Rattle.std.specs.Prelude.{◌≡◌};
 ghost use Rattle.refusal.specs.Refusal.{number_of};
 
 // 1 to 4 are of a record or an event, 5 of a state, 6 and 7 of an offer to the driver, 8 of a program's input.
-#[derive(Clone, Copy)]
+#[derive(Clone, Copy, PartialEq, Eq)]
 pub enum Refusal {
-    Cut,
+    Cut = 1,
     NotShortest,
     NoKind,
     OutOfRange,
@@ -23,15 +23,6 @@ impl Refusal {
     pub fn number(self) -> u8
         ensures { result ≡ number_of self }
     {
-        match self {
-            Refusal::Cut => 1,
-            Refusal::NotShortest => 2,
-            Refusal::NoKind => 3,
-            Refusal::OutOfRange => 4,
-            Refusal::NotWellFormed => 5,
-            Refusal::OfferTooLong => 6,
-            Refusal::PacketHeld => 7,
-            Refusal::InputTooLong => 8,
-        }
+        self as u8
     }
 }

@@ -2,22 +2,18 @@
 -- Assumes nothing.
 use Prim.Native.Nat.{ℕ, zero, suc, ◌+◌, ◌≤◌, ◌<◌}
 use native.Mathlib.Omega.{arith}
-use mathlib.Core.Path.{◌≡◌, refl, sym, ◌∙◌}
-use mathlib.Core.Bool.{Bool, true, false, not, and-eq-true_iff}
-use mathlib.Core.List.{List, [], ◌∷◌}
+use mathlib.Core.Path.{◌≡◌, refl, ◌∙◌}
+use mathlib.Core.Bool.{Bool, true, false, and-eq-true_iff}
+use mathlib.Core.List.{List}
 use lib.ListN.{length}
 use lib.Dec.{leb, ltb}
 use borrow.Author.Tests.{le-ltb, leb-true, ltb-true}
-use Rattle.trace.specs.declared.Span.{Span}
 use Rattle.choice.specs.Choice.{pick}
 use Rattle.refusal.specs.declared.Refusal.{Refusal}
 use Rattle.refusal.specs.declared.Refusal.TheVariants as refusal
 use Rattle.refusal.specs.Refusal.{number_of}
 use Rattle.event.specs.declared.Event.{Event}
-use Rattle.trace.specs.declared.Found.{Found}
-use Rattle.trace.specs.declared.Found.TheVariants as found
-use Rattle.trace.specs.Record.{event, end, read_at, stretch}
-use Rattle.trace.specs.Meaning.{meaning}
+use Rattle.trace.specs.Record.{event, end, refuse, read_at, stretch}
 use Rattle.reading.proofs.Reader.{next_past}
 use Rattle.printed.proofs.Decimal.{decimal_length, decimal_length_5}
 use Rattle.printed.proofs.Overlay.{overlay_length}
@@ -46,55 +42,53 @@ end_read : (trace : List ℕ) (at : ℕ) → length trace ≤ at → read_at tra
 unfolding read_at pick
 end_read trace at le = rw (le-ltb at (length trace) le)
 
-run_ends : (turns : ℕ) (trace : List ℕ) (r : Running) → length trace ≤ r.spot.place → run_for turns trace r ≡ stopping ended r
+-- what is no event ends a run
+end_turns : (turns : ℕ) (trace : List ℕ) (r : Running) → read_at trace r.spot.place ≡ end → run_for turns trace r ≡ stopping ended r
 unfolding run_for onward ending
-run_ends zero trace r le = refl
-run_ends (suc n) trace r le = rw (end_read trace r.spot.place le)
+end_turns zero trace r e = refl
+end_turns (suc n) trace r e = rw e
 
-pub ends : (trace : List ℕ) (r₀ r : Running) → Left trace r₀ r → length trace ≤ r.spot.place → run_for (length trace) trace r₀ ≡ stopping ended r
-ends trace r₀ r l le = l.same ∙ run_ends l.turns trace r le
+refused_turns :
+    (turns : ℕ) (trace : List ℕ) (r : Running) (k at : ℕ) → length trace ≤ r.spot.place + turns → read_at trace r.spot.place ≡ refuse k at
+    → run_for turns trace r ≡ ending (refuse k at) r
+unfolding run_for onward
+refused_turns zero trace r k at enough e =
+    let none = end_read trace r.spot.place (omega arith) in
+    let z : ◌≡◌ {A = ℕ} 0 1 = cc in absurd {0} (omega arith)
+refused_turns (suc n) trace r k at enough e = rw e
 
-module _ (trace : List ℕ) (r : Running) (before : r.spot.place < length trace) where
-  -- what is no event ends a run
-  no_event :
-      (turns : ℕ) (f : Found) → length trace ≤ r.spot.place + turns → ((x : Event) (span : Span) → f ≡ found.Record x span → ⊥) →
-      meaning f ≡ read_at trace r.spot.place → run_for turns trace r ≡ ending (meaning f) r
-  unfolding run_for onward
-  no_event zero f enough k e = absurd {0} (omega arith)
-  no_event (suc n) (found.Record x span) enough k e = absurd {0} (k x span refl)
-  no_event (suc n) found.End enough k e = rw (← e)
-  no_event (suc n) (found.Refused x at) enough k e = rw (← e)
+module _ (trace : List ℕ) (r : Running) where
+  pub ends : (r₀ : Running) → Left trace r₀ r → read_at trace r.spot.place ≡ end → run_for (length trace) trace r₀ ≡ stopping ended r
+  ends r₀ l e = l.same ∙ end_turns l.turns trace r e
 
-  -- without room nothing is done
-  no_room : (turns : ℕ) (e : Event) (from next : ℕ) → length trace ≤ r.spot.place + turns → read_at trace r.spot.place ≡ event e from next
-      → roomy r ≡ false → run_for turns trace r ≡ stopping full r
-  unfolding run_for onward pick
-  no_room zero e from next enough h none = absurd {0} (omega arith)
-  no_room (suc n) e from next enough h none = rw (h, none)
+  pub stops : (r₀ : Running) (k at : ℕ) → Left trace r₀ r → read_at trace r.spot.place ≡ refuse k at
+      → run_for (length trace) trace r₀ ≡ ending (refuse k at) r
+  stops r₀ k at l e = l.same ∙ refused_turns l.turns trace r k at l.enough e
 
-  -- else one event, and the same run from there
-  one_event : (r₀ : Running) (turns : ℕ) (e : Event) (from next : ℕ) → length trace ≤ r.spot.place + turns
-      → read_at trace r.spot.place ≡ event e from next → roomy r ≡ true → run_for (length trace) trace r₀ ≡ run_for turns trace r
-      → Left trace r₀ (printing (line_of e (stretch trace from next) r.spot) (did e (stretch trace from next) next r.spot) r)
-  unfolding run_for onward pick printing did
-  one_event r₀ zero e from next enough h room same = absurd {0} (omega arith)
-  one_event r₀ (suc n) e from next enough h room same =
-      let past : _ = next_past trace r.spot.place e from next h in
-      record { turns = n; enough = omega arith; same = rw (h, room) at same }
+  module _ (e : Event) (from next : ℕ) (h : read_at trace r.spot.place ≡ event e from next) where
+    -- without room nothing is done
+    no_room : (turns : ℕ) → length trace ≤ r.spot.place + turns → roomy r ≡ false → run_for turns trace r ≡ stopping full r
+    unfolding run_for onward pick
+    no_room zero enough none = let past : _ = next_past trace r.spot.place e from next h in absurd {0} (omega arith)
+    no_room (suc n) enough none = rw (h, none)
 
-  pub stops : (r₀ : Running) (f : Found) → Left trace r₀ r → ((x : Event) (span : Span) → f ≡ found.Record x span → ⊥) → meaning f ≡ read_at trace r.spot.place
-      → run_for (length trace) trace r₀ ≡ ending (meaning f) r
-  stops r₀ f l k e = l.same ∙ no_event l.turns f l.enough k e
+    -- else one event, and the same run from there
+    one_event : (r₀ : Running) (turns : ℕ) → length trace ≤ r.spot.place + turns
+        → roomy r ≡ true → run_for (length trace) trace r₀ ≡ run_for turns trace r
+        → Left trace r₀ (printing (line_of e (stretch trace from next) r.spot) (did e (stretch trace from next) next r.spot) r)
+    unfolding run_for onward pick printing did
+    one_event r₀ zero enough room same = let past : _ = next_past trace r.spot.place e from next h in absurd {0} (omega arith)
+    one_event r₀ (suc n) enough room same =
+        let past : _ = next_past trace r.spot.place e from next h in
+        record { turns = n; enough = omega arith; same = rw (h, room) at same }
 
-  pub is_full : (r₀ : Running) (e : Event) (from next : ℕ) → Left trace r₀ r → read_at trace r.spot.place ≡ event e from next → roomy r ≡ false
-      → run_for (length trace) trace r₀ ≡ stopping full r
-  is_full r₀ e from next l h none = l.same ∙ no_room l.turns e from next l.enough h none
+    pub is_full : (r₀ : Running) → Left trace r₀ r → roomy r ≡ false → run_for (length trace) trace r₀ ≡ stopping full r
+    is_full r₀ l none = l.same ∙ no_room l.turns l.enough none
 
-  pub goes_on : (r₀ : Running) (e : Event) (from next : ℕ) → Left trace r₀ r → read_at trace r.spot.place ≡ event e from next → roomy r ≡ true
-      → Left trace r₀ (printing (line_of e (stretch trace from next) r.spot) (did e (stretch trace from next) next r.spot) r)
-  goes_on r₀ e from next l h room = one_event r₀ l.turns e from next l.enough h room l.same
+    pub goes_on : (r₀ : Running) → Left trace r₀ r → roomy r ≡ true
+        → Left trace r₀ (printing (line_of e (stretch trace from next) r.spot) (did e (stretch trace from next) next r.spot) r)
+    goes_on r₀ l room = one_event r₀ l.turns l.enough room l.same
 
--- a refusal's line fits where there is room
 number_small : (r : Refusal) → number_of r ≤ 8
 number_small refusal.Cut = omega arith
 number_small refusal.NotShortest = omega arith
@@ -128,7 +122,6 @@ line_fits n a m raised k out' small text = omega (arith, line_longest n a m rais
 -- what holds at each turn: the same run; what is written is within the buffer, whose length stays; the number is a number
 pub record Turned (trace : List ℕ) (r₀ r : Running) : Type 0 where
   pub left : Left trace r₀ r
-  pub within : r.written ≤ length r.out
   pub sized : length r.out ≡ length r₀.out
   pub counted : r.spot.number < 18446744073709551616
 
@@ -141,15 +134,14 @@ module _ (trace : List ℕ) (r : Running) (e : Event) (from next : ℕ) (p : Lis
   unfolding printing did line_of
   one_turn = rw (← payload, ← step.bytes, ← step.out, ← lined, text.count, text.bytes)
 
-  pub again : (r₀ : Running) → Turned trace r₀ r → r.spot.place < length trace → read_at trace r.spot.place ≡ event e from next
+  pub again : (r₀ : Running) → Turned trace r₀ r → read_at trace r.spot.place ≡ event e from next
       → roomy r ≡ true → Turned trace r₀ (running (spot_at o.chip m next (r.spot.number + 1)) out (r.written + k))
-  again r₀ t before h room =
+  again r₀ t h room =
       let says : _ = room_says r.out r.written r.spot.number room in
       let short : length (line_text r.spot.number o.answer m raised) ≤ 158 = line_longest r.spot.number o.answer m raised t.counted in
       let same : length out ≡ length r.out = rw text.bytes (overlay_length r.written _ r.out) in
       record {
-        left = rw one_turn at (goes_on trace r before r₀ e from next t.left h room);
-        within = omega (arith, says.0, short, same, text.count);
+        left = rw one_turn at (goes_on trace r e from next h r₀ t.left room);
         sized = same ∙ t.sized;
         counted = omega (arith, says.1);
       }

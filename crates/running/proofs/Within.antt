@@ -3,7 +3,10 @@
 use Prim.Native.Nat.{ℕ, zero, suc, ◌≤◌, ◌<◌}
 use native.Mathlib.Omega.{arith}
 use mathlib.Core.Path.{◌≡◌, refl}
+use mathlib.Core.Bool.{not}
 use mathlib.Core.List.{List}
+use lib.Dec.{ltb}
+use Rattle.formed.specs.Formed.{well_formed}
 use lib.ListN.{length}
 use Rattle.choice.proofs.ByTest.{by_test}
 use Rattle.event.specs.declared.Event.{Event}
@@ -13,7 +16,7 @@ use Rattle.printed.proofs.Overlay.{overlay_length}
 use Rattle.lines.specs.Line.{refusal_text}
 use Rattle.longest.proofs.Longest.{line_longest}
 use Rattle.running.specs.Output.{Spot, did, line_of}
-use Rattle.running.specs.Run.{Running, Stopped, roomy, ending, onward, printing, run_for}
+use Rattle.running.specs.Run.{Running, Stopped, roomy, ending, onward, printing, run_for, run_of}
 use Rattle.running.proofs.Turns.{room_says, refusal_within}
 
 -- a buffer of this length holds what is written
@@ -67,3 +70,9 @@ module _ (trace : List ℕ) (long : length trace < 18446744073709551616) where
   unfolding run_for
   run_within zero r w n = w
   run_within (suc turns) r w n = onward_within r (read_at trace r.spot.place) (run_for turns trace) (run_within turns) w n refl
+
+  pub run_of_within : (r : Running) → Within r → Numbers r → Holds (run_of trace r)
+  unfolding run_of
+  run_of_within r w n =
+      by_test Holds (ltb 65536 (length trace)) (λ _. w) (λ _.
+      by_test Holds (not (well_formed r.spot.chip)) (λ _. w) (λ _. run_within (length trace) r w n))

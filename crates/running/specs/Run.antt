@@ -1,5 +1,5 @@
 -- A run of a trace into a buffer: what is written, and where and why it stops.
-use Rattle.std.specs.Prelude.{ℕ, zero, suc, ◌+◌, ◌≡◌, Bool, not, ◌&&◌, List, length, leb, ltb}
+use Rattle.std.specs.Prelude.{Result, Ok, Err, ℕ, zero, suc, ◌+◌, ◌≡◌, Bool, not, ◌&&◌, List, length, leb, ltb}
 use Rattle.choice.specs.Choice.{pick}
 use Rattle.refusal.specs.Refusal.{number_of}
 use Rattle.trace.specs.Record.{Reading, event, end, refuse, read_at, stretch}
@@ -8,8 +8,10 @@ use Rattle.digits.specs.Text.{overlay}
 use Rattle.lines.specs.Line.{refusal_text, longest}
 use Rattle.running.specs.declared.Stop.{Stop}
 use Rattle.running.specs.declared.Stop.TheVariants as stop
+use Rattle.trace.specs.declared.Refused.{Refused}
 use Rattle.running.specs.declared.Ran.{Ran}
-use Rattle.running.specs.Output.{Spot, did, line_of}
+use Rattle.running.specs.declared.Progress.{Progress}
+use Rattle.running.specs.Output.{Spot, spot_at, did, line_of}
 
 -- why a run stops: the end of the trace, a refusal with its number and place, or no room for a line
 pub data Reason : Type 0 where
@@ -17,10 +19,10 @@ pub data Reason : Type 0 where
   refused : ℕ → ℕ → Reason
   full : Reason
 
-abbrev pub reason_of : Stop → Reason
-reason_of stop.End = ended
-reason_of (stop.Refused r at) = refused (number_of r) at
-reason_of stop.Full = full
+abbrev pub reason_of : Result Stop Refused → Reason
+reason_of (Ok stop.End) = ended
+reason_of (Ok stop.Full) = full
+reason_of (Err r) = refused (number_of r.why) r.place
 
 -- a run under way: where it is, the buffer, and how much of it is written
 pub record Running : Type 0 where
@@ -30,6 +32,10 @@ pub record Running : Type 0 where
 
 abbrev pub running : Spot → List ℕ → ℕ → Running
 running p out written = record { spot = p; out = out; written = written }
+
+-- the one that the code has, with the memory and the buffer
+abbrev pub under_way : Progress → List ℕ → List ℕ → Running
+under_way p memory out = running (spot_at p.chip memory p.place p.number) out p.written
 
 pub record Stopped : Type 0 where
   pub at : Running
@@ -55,6 +61,11 @@ ending end r = stopping ended r
 ending (refuse k at) r =
     pick (roomy r) (stopping (refused k at) (printing (refusal_text r.spot.number k at) r.spot r)) (stopping full r)
 ending (event e from next) r = stopping ended r
+
+-- where the events of a run stop: a refusal is still to be printed
+abbrev pub stopped : Result Stop Refused → Running → Stopped
+stopped (Ok x) r = stopping (reason_of (Ok x)) r
+stopped (Err f) r = ending (refuse (number_of f.why) f.place) r
 
 -- an event is done and its line printed, if there is room
 unfoldable pub onward : List ℕ → Running → Reading → (Running → Stopped) → Stopped

@@ -3,10 +3,10 @@
 use Rattle.std.specs.Prelude.{ℕ, ◌+◌, ◌%◌, ◌≡◌, Bool, true, false, List, length, leb, eqb}
 use Rattle.choice.specs.Choice.{pick}
 use Rattle.rxfifo.specs.declared.RxFifo.{RxFifo}
-use Rattle.rxfifo.specs.declared.TakenRx.{TakenRx}
 use Rattle.window.specs.declared.FifoNumber.{FifoNumber}
 use Rattle.window.specs.declared.Kind.TheVariants.{Receive}
 use Rattle.window.specs.Window.{rx_size, start_of}
+use Rattle.ring.specs.declared.Taken.{Taken}
 use Rattle.ring.specs.Ring.{next, level, byte_at, store_all, contents}
 
 -- "Reset: all zero"; "A flush zeroes all of them"; RXD repeats "0 after reset or flush". The bytes in memory stay, unseen
@@ -21,11 +21,11 @@ rx_contents n f m = contents (start_of Receive n) rx_size m f.read f.write
 abbrev pub head_rx : FifoNumber → RxFifo → List ℕ → ℕ
 head_rx n f m = byte_at (start_of Receive n) rx_size m f.read
 
-unfoldable pub take_rx : FifoNumber → RxFifo → List ℕ → TakenRx
+unfoldable pub take_rx : FifoNumber → RxFifo → List ℕ → Taken RxFifo
 take_rx n f m =
     pick (eqb (level f.read f.write) 0)
-    (record { fifo = f; value = f.last; taken = false })
-    (record { fifo = record { read = next f.read; write = f.write; last = head_rx n f m }; value = head_rx n f m; taken = true })
+    (record { next = f; value = f.last; taken = false })
+    (record { next = record { read = next f.read; write = f.write; last = head_rx n f m }; value = head_rx n f m; taken = true })
 
 -- room for so many bytes: "no room (on 2, 4, 6 level plus count over 64 ..)"
 abbrev pub fits_rx : RxFifo → ℕ → Bool

@@ -3,24 +3,28 @@
 #![tactic(auto)]
 
 ghost use Rattle.std.specs.Prelude.{◌≡◌};
+ghost use Rattle.window.specs.declared.Kind.TheVariants.{Receive};
 ghost use Rattle.rxfifo.specs.Receive.{reset_rx, take_rx, fits_rx, FillRx};
 
-use window::{FifoNumber, Kind, Window};
+use ring::Taken;
+use window::{FifoNumber, Kind, Memory, Window};
 
 // `last` is the byte that RXD gave last.
-#[derive(Clone, Copy)]
+#[derive(Clone, Copy, PartialEq, Eq, Default)]
 pub struct RxFifo {
     pub read: u8,
     pub write: u8,
     pub last: u8,
 }
 
-// What a read of RXD gives: the next FIFO, the byte, and whether it was taken by this read.
-#[derive(Clone, Copy)]
-pub struct TakenRx {
-    pub fifo: RxFifo,
-    pub value: u8,
-    pub taken: bool,
+// The window of the FIFO's bytes.
+fn window(number: FifoNumber) -> Window
+    ensures { result ≡ record { kind = Receive; number = number } }
+{
+    Window {
+        kind: Kind::Receive,
+        number,
+    }
 }
 
 impl RxFifo {
@@ -29,36 +33,23 @@ impl RxFifo {
     pub fn reset() -> RxFifo
         ensures { result ≡ reset_rx }
     {
-        RxFifo {
-            read: 0,
-            write: 0,
-            last: 0,
-        }
+        RxFifo::default()
     }
 
     // Takes the first byte; with none the last one read is given again.
-    pub fn take(mut self, memory: &[u8; 392], number: FifoNumber) -> TakenRx
+    #[tactic(auto, unfolding(crate::specs::Receive::take_rx, choice::specs::Choice::pick))]
+    pub fn take(mut self, memory: &Memory, number: FifoNumber) -> Taken<RxFifo>
         ensures { result ≡ take_rx number self memory.now }
     {
-        let n = ring::level(self.read, self.write);
-        if n == 0 {
-            return TakenRx {
-                fifo: self,
-                value: self.last,
-                taken: false,
-            };
+        let taken = ring::level(self.read, self.write) != 0;
+        if taken {
+            self.last = ring::load(memory, window(number), self.read);
+            self.read = ring::next(self.read);
         }
-        let window = Window {
-            kind: Kind::Receive,
-            number,
-        };
-        let b = ring::load(memory, window, self.read);
-        self.read = ring::next(self.read);
-        self.last = b;
-        TakenRx {
-            fifo: self,
-            value: b,
-            taken: true,
+        Taken {
+            next: self,
+            value: self.last,
+            taken,
         }
     }
 
@@ -66,34 +57,25 @@ impl RxFifo {
     pub fn fits(self, count: usize) -> bool
         ensures { result ≡ fits_rx self count }
     {
-        if (RxFifo::SIZE as usize) < count {
-            return false;
-        }
-        let n = ring::level(self.read, self.write);
-        n as usize + count <= RxFifo::SIZE as usize
+        let size = RxFifo::SIZE as usize;
+        count <= size && ring::level(self.read, self.write) as usize + count <= size
     }
 
     // Appends a whole packet; where it does not fit, nothing.
-    pub fn fill(mut self, memory: &mut [u8; 392], number: FifoNumber, s: &[u8]) -> RxFifo
+    #[tactic(auto, unfolding(crate::specs::Receive::fill_rx, choice::specs::Choice::pick))]
+    pub fn fill(mut self, memory: &mut Memory, number: FifoNumber, s: &[u8]) -> RxFifo
         ensures { FillRx number self s.now memory.old result memory.new }
     {
         if self.fits(s.len()) {
-            let window = Window {
-                kind: Kind::Receive,
-                number,
-            };
-            self.write = ring::store_all(memory, window, self.write, s);
+            self.write = ring::store_all(memory, window(number), self.write, s);
         }
         self
     }
 
     // Zeroes the counters and the last byte read; the bytes in memory stay.
-    pub fn flush(mut self) -> RxFifo
+    pub fn flush(self) -> RxFifo
         ensures { result ≡ reset_rx }
     {
-        self.read = 0;
-        self.write = 0;
-        self.last = 0;
-        self
+        RxFifo::default()
     }
 }

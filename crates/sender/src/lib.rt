@@ -2,19 +2,18 @@
 // at the end of the wait for a handshake. Bytes stand in the lent memory. The definitions that the contracts cite are in specs/.
 #![tactic(auto)]
 
-ghost use Rattle.std.specs.Prelude.{◌/◌, ◌≡◌, ◌&&◌, true, false};
+ghost use Rattle.std.specs.Prelude.{◌/◌, ◌≡◌, ◌&&◌, false};
 ghost use Rattle.epc.specs.Bits.{has, odd};
-ghost use Rattle.txfifo.specs.Transmit.{mark_tx};
-ghost use Rattle.sender.specs.Sender.{with_bits, with_fifo, with_flags};
+ghost use Rattle.sender.specs.Sender.{with_bits};
 ghost use Rattle.sender.specs.Sender.{reset_sender, status_of, cleared, command_value, command, moved, marked};
 ghost use Rattle.sender.specs.Sender.{PutData, answer_in, sent, handshake, stopped, near, well_formed};
 
 use epc::Epc;
 use txfifo::TxFifo;
-use window::FifoNumber;
+use window::{FifoNumber, Memory};
 
 // `urun`, `ack`, `done` are TX_URUN, ACK_STAT and TX_DONE of TXS; `high` is TXC 7..5, `toggle`, `last`, `enabled` are TXC 2..0.
-#[derive(Clone, Copy)]
+#[derive(Clone, Copy, PartialEq, Eq, Default)]
 pub struct Sender {
     pub fifo: TxFifo,
     pub epc: Epc,
@@ -28,7 +27,7 @@ pub struct Sender {
 }
 
 // What an IN token finds: NAK, STALL, a broken packet, or DATA0 or DATA1 by TOGGLE.
-#[derive(Clone, Copy)]
+#[derive(Clone, Copy, PartialEq, Eq)]
 pub enum Sent {
     Nak,
     Stall,
@@ -41,31 +40,17 @@ impl Sender {
     pub fn reset() -> Sender
         ensures { result ≡ reset_sender }
     {
-        let fifo = TxFifo::reset();
-        let epc = Epc::reset();
-        Sender {
-            fifo,
-            epc,
-            urun: false,
-            ack: false,
-            done: false,
-            high: 0,
-            toggle: false,
-            last: false,
-            enabled: false,
-        }
+        Sender::default()
     }
 
     // What a read of TXS shows.
     pub fn status(self) -> u8
         ensures { result ≡ status_of self }
     {
-        let n = ring::free(TxFifo::SIZE, self.fifo.read, self.fifo.write);
-        let flags = 128 * epc::bit(self.urun) + 64 * epc::bit(self.ack) + 32 * epc::bit(self.done);
-        if n <= 31 {
-            return flags + n;
-        }
-        flags + 31
+        128 * epc::bit(self.urun)
+            + 64 * epc::bit(self.ack)
+            + 32 * epc::bit(self.done)
+            + ring::free(TxFifo::SIZE, self.fifo.read, self.fifo.write).min(31)
     }
 
     // A read of TXS clears its flags.
@@ -90,15 +75,16 @@ impl Sender {
 
     // A TXC byte: flush, else refill; then the bits; LAST saves the read pointer. Outside the operational state LAST and TX_EN are stored
     // as 0, and LAST moves nothing.
-    pub fn command(mut self, v: u8, operational: bool) -> Sender
+    #[tactic(auto, unfolding(crate::specs::Sender::command, choice::specs::Choice::pick))]
+    pub fn command(self, v: u8, operational: bool) -> Sender
         ensures { result ≡ command operational v self }
     {
-        self = self.moved(v);
-        self = self.stored(v, operational);
+        let stored = self.moved(v).stored(v, operational);
         if operational {
-            return self.marked(v);
+            stored.marked(v)
+        } else {
+            stored
         }
-        self
     }
 
     // The bits of a TXC byte; LAST is stored with its mark.
@@ -108,100 +94,92 @@ impl Sender {
         self.high = v / 32;
         self.toggle = v / 4 % 2 == 1;
         self.last = false;
-        self.enabled = false;
-        if operational {
-            self.enabled = v % 2 == 1;
-        }
+        self.enabled = operational && v % 2 == 1;
         self
     }
 
     // The FIFO's part of a TXC byte before its bits.
+    #[tactic(auto, unfolding(crate::specs::Sender::moved, choice::specs::Choice::pick))]
     fn moved(mut self, v: u8) -> Sender
         ensures { result ≡ moved v self }
     {
-        let mut f = self.fifo;
         if v / 8 % 2 == 1 {
-            f = f.flush();
-            self.fifo = f;
-            return self;
-        }
-        if v / 16 % 2 == 1 {
-            f = f.refill();
-            self.fifo = f;
+            self.fifo = self.fifo.flush();
+        } else if v / 16 % 2 == 1 {
+            self.fifo = self.fifo.refill();
         }
         self
     }
 
     // LAST of a TXC byte.
+    #[tactic(auto, unfolding(crate::specs::Sender::marked, choice::specs::Choice::pick))]
     fn marked(mut self, v: u8) -> Sender
         ensures { result ≡ marked v self }
     {
         if v / 2 % 2 == 1 {
-            let f = self.fifo.mark();
-            self.fifo = f;
+            self.fifo = self.fifo.mark();
             self.last = true;
         }
         self
     }
 
     // A write of TXD.
-    pub fn put(mut self, memory: &mut [u8; 392], number: FifoNumber, b: u8) -> Sender
+    pub fn put(mut self, memory: &mut Memory, number: FifoNumber, b: u8) -> Sender
         ensures { PutData number self b memory.old result memory.new }
     {
-        let f = self.fifo.put(memory, number, b);
-        self.fifo = f;
+        self.fifo = self.fifo.put(memory, number, b);
         self
     }
 
     // What it answers to an IN token that it takes.
+    #[tactic(auto, unfolding(crate::specs::Sender::answer_in, choice::specs::Choice::pick))]
     pub fn answer(self) -> Sent
         ensures { result ≡ answer_in self }
     {
-        if self.enabled {
-            if self.epc.stall {
-                return Sent::Stall;
+        if !self.enabled {
+            Sent::Nak
+        } else if self.epc.stall {
+            Sent::Stall
+        } else if self.last {
+            if self.toggle {
+                Sent::Data1
+            } else {
+                Sent::Data0
             }
-            if self.last {
-                if self.toggle {
-                    return Sent::Data1;
-                }
-                return Sent::Data0;
-            }
-            return Sent::Broken;
+        } else {
+            Sent::Broken
         }
-        Sent::Nak
     }
 
     // The state after that answer.
-    pub fn sent(mut self) -> Sender
+    #[tactic(auto, unfolding(crate::specs::Sender::sent, choice::specs::Choice::pick))]
+    pub fn sent(self) -> Sender
         ensures { result ≡ sent self }
     {
-        if self.enabled {
-            self.enabled = false;
-            if self.epc.stall {
-                self.ack = false;
-                self.done = true;
-                return self;
+        if !self.enabled {
+            self
+        } else if self.epc.stall {
+            Sender {
+                ack: false,
+                done: true,
+                enabled: false,
+                ..self
             }
-            let f = self.fifo.spend();
-            self.fifo = f;
-            if self.last {
-                self.last = false;
-                return self;
+        } else if self.last {
+            Sender {
+                fifo: self.fifo.spend(),
+                last: false,
+                enabled: false,
+                ..self
             }
-            return self.broken();
+        } else {
+            Sender {
+                fifo: self.fifo.spend().mark(),
+                urun: true,
+                enabled: false,
+                ..self
+            }
         }
-        self
-    }
-
-    // A broken packet, its bytes spent.
-    fn broken(mut self) -> Sender
-        ensures { result ≡ with_flags true self.ack self.done (with_fifo (mark_tx self.fifo) self) }
-    {
-        let kept = self.fifo.mark();
-        self.fifo = kept;
-        self.urun = true;
-        self
     }
 
     // The end of the wait for a handshake: whether it was an ACK.
@@ -223,41 +201,23 @@ impl Sender {
     }
 
     // Whether read - saved is at most 64, and 0 while LAST is set.
+    #[tactic(auto, unfolding(crate::specs::Sender::near))]
     fn near(self) -> bool
         ensures { result ≡ near self }
     {
         let n = ring::level(self.fifo.saved, self.fifo.read);
-        if 64 < n {
-            return false;
-        }
-        if self.last {
-            return n == 0;
-        }
-        true
+        n <= 64 && (!self.last || n == 0)
     }
 
     // Whether a state is one that 01 allows: asked before a step.
+    #[tactic(auto, unfolding(crate::specs::Sender::well_formed))]
     pub fn well_formed(self, operational: bool) -> bool
         ensures { result ≡ well_formed operational self }
     {
-        if TxFifo::SIZE < ring::level(self.fifo.read, self.fifo.write) {
-            return false;
-        }
-        if !self.near() {
-            return false;
-        }
-        if 8 <= self.high {
-            return false;
-        }
-        if 16 <= self.epc.number.0 {
-            return false;
-        }
-        if operational {
-            return true;
-        }
-        if self.last {
-            return false;
-        }
-        !self.enabled
+        ring::level(self.fifo.read, self.fifo.write) <= TxFifo::SIZE
+            && self.near()
+            && self.high < 8
+            && self.epc.number.within()
+            && (operational || !self.last && !self.enabled)
     }
 }

@@ -1,12 +1,15 @@
-// Writes of the registers that belong to no endpoint: MCNTRL, FAR, NFSR and the masks; and who awaits a handshake.
+// Writes of the registers that belong to no endpoint: MCNTRL, FAR, NFSR and the masks; whether the chip is operational, who awaits a
+// handshake, and a command byte held till then.
 // The definitions that the contracts cite are in specs/.
 #![tactic(auto)]
 
 ghost use Rattle.std.specs.Prelude.{◌≡◌};
-ghost use Rattle.settings.specs.Settings.{operational, awaits, held_byte, stop_sender, stop_receiver, stop_zero, stop, far_write, nfsr_write, mask_write, Reset};
+ghost use Rattle.settings.specs.Settings.{operational, awaits, held_byte, stop, far_write, nfsr_write, mask_write, Reset};
 
-use state::{Chip, Endpoint, Masks, Pending, Wait};
-use window::FifoNumber;
+use receiver::Receiver;
+use sender::Sender;
+use state::{Chip, Endpoint, Pending, Wait};
+use window::Memory;
 
 pub fn operational(c: Chip) -> bool
     ensures { result ≡ operational c }
@@ -18,36 +21,29 @@ pub fn operational(c: Chip) -> bool
 pub fn awaits(c: Chip, endpoint: Endpoint) -> bool
     ensures { result ≡ awaits endpoint c }
 {
-    let p = c.pending;
-    let w = p.wait;
-    match w {
-        Wait::Handshake(e) => e.0 == endpoint.0,
-        Wait::Nothing => false,
-        Wait::Data(_) => false,
-        Wait::Setup => false,
-    }
+    c.pending.wait == Wait::Handshake(endpoint)
 }
 
 // A command byte is held, the newest replacing older.
 pub fn held(mut c: Chip, v: u8) -> Chip
     ensures { result ≡ held_byte v c }
 {
-    let mut p = c.pending;
-    p.holds = true;
-    p.held = v;
-    c.pending = p;
+    c.pending.holds = true;
+    c.pending.held = v;
     c
 }
 
 // MCNTRL: bit 0 resets everything.
-pub fn mcntrl(c: Chip, memory: &mut [u8; 392], v: u8) -> Chip
+#[tactic(auto, unfolding(choice::specs::Choice::pick))]
+pub fn mcntrl(c: Chip, memory: &mut Memory, v: u8) -> Chip
     ensures { Reset v c memory.old result memory.new }
 {
     if v % 2 == 1 {
-        *memory = [0u8; 392];
-        return Chip::reset();
+        *memory = [0; 392];
+        Chip::reset()
+    } else {
+        c
     }
-    c
 }
 
 pub fn far(mut c: Chip, v: u8) -> Chip
@@ -59,65 +55,36 @@ pub fn far(mut c: Chip, v: u8) -> Chip
 }
 
 // NFSR: any value but 2 leaves the operational state.
+#[tactic(auto, unfolding(crate::specs::Settings::nfsr_write, choice::specs::Choice::pick))]
 pub fn nfsr(mut c: Chip, v: u8) -> Chip
     ensures { result ≡ nfsr_write v c }
 {
     c.nfsr = v % 4;
-    if v % 4 == 2 {
-        return c;
-    }
-    stop(c)
+    if operational(c) { c } else { stop(c) }
 }
 
 // TX_EN, LAST, RX_EN, what is awaited and held, and the SETUP mark go.
+#[tactic(auto, unfolding(crate::specs::Settings::stop_sender, crate::specs::Settings::stop_receiver, crate::specs::Settings::stop_zero, window::specs::Window::index_of, choice::specs::Choice::pick))]
 fn stop(mut c: Chip) -> Chip
     ensures { result ≡ stop c }
 {
-    c = stop_sender(c, FifoNumber(1));
-    c = stop_sender(c, FifoNumber(2));
-    c = stop_sender(c, FifoNumber(3));
-    c = stop_receiver(c, FifoNumber(1));
-    c = stop_receiver(c, FifoNumber(2));
-    c = stop_receiver(c, FifoNumber(3));
-    stop_zero(c)
-}
-
-fn stop_zero(mut c: Chip) -> Chip
-    ensures { result ≡ stop_zero c }
-{
-    let mut z = c.control;
-    z = z.stopped();
-    c.control = z;
-    let p = Pending::idle();
-    c.pending = p;
+    c.senders = c.senders.map(Sender::stopped);
+    c.receivers = c.receivers.map(Receiver::stopped);
+    c.control = c.control.stopped();
+    c.pending = Pending::idle();
     c
 }
 
-fn stop_sender(c: Chip, number: FifoNumber) -> Chip
-    ensures { result ≡ stop_sender number c }
-{
-    let s = c.sender(number);
-    c.with_sender(number, s.stopped())
-}
-
-fn stop_receiver(c: Chip, number: FifoNumber) -> Chip
-    ensures { result ≡ stop_receiver number c }
-{
-    let s = c.receiver(number);
-    c.with_receiver(number, s.stopped())
-}
-
 // MAMSK, or the mask of TXEV, RXEV, NAKEV.
+#[tactic(auto, unfolding(crate::specs::Settings::mask_write, choice::specs::Choice::pick))]
 pub fn mask(mut c: Chip, which: u8, v: u8) -> Chip
     ensures { result ≡ mask_write which v c }
 {
-    let mut m = c.masks;
     match which {
-        0 => m.main = v,
-        1 => m.tx = v,
-        2 => m.rx = v,
-        _ => m.nak = v,
+        0 => c.masks.main = v,
+        1 => c.masks.tx = v,
+        2 => c.masks.rx = v,
+        _ => c.masks.nak = v,
     }
-    c.masks = m;
     c
 }

@@ -8,12 +8,21 @@ ghost use Rattle.slot.specs.Slot.{slot_of, sending};
 use state::Endpoint;
 use window::FifoNumber;
 
+// One of an endpoint's four registers: EPC; TXD or RXD; TXS or RXS; TXC or RXC.
+#[derive(Clone, Copy, PartialEq, Eq)]
+pub enum Register {
+    Epc,
+    Data,
+    Status,
+    Command,
+}
+
 // Which endpoint's register an address from 28 to 3F names: its FIFO, whether it sends, and which of its four registers.
 #[derive(Clone, Copy)]
 pub struct Slot {
     pub number: FifoNumber,
     pub sends: bool,
-    pub register: u8,
+    pub register: Register,
 }
 
 // Blocks of four from 28 on, by turns for sending and receiving.
@@ -23,7 +32,12 @@ pub fn block(address: u8) -> Slot
     Slot {
         number: FifoNumber(address / 8 % 4),
         sends: address % 8 < 4,
-        register: address % 4,
+        register: match address % 4 {
+            0 => Register::Epc,
+            1 => Register::Data,
+            2 => Register::Status,
+            _ => Register::Command,
+        },
     }
 }
 
@@ -31,6 +45,5 @@ pub fn block(address: u8) -> Slot
 pub fn sending(number: FifoNumber) -> Endpoint
     ensures { result ≡ sending number }
 {
-    let i = number.index();
-    Endpoint(1 + 2 * (i as u8))
+    Endpoint(1 + 2 * number.index() as u8)
 }

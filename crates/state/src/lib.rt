@@ -2,7 +2,7 @@
 // The bytes stand in memory that the caller lends. The definitions that the contracts cite are in specs/.
 #![tactic(auto)]
 
-ghost use Rattle.std.specs.Prelude.{◌≡◌};
+ghost use Rattle.std.specs.Prelude.{◌≡◌, ◌%◌, true, set};
 ghost use Rattle.state.specs.State.{reset_chip, nothing, sender_at, receiver_at, fifo_of};
 ghost use Rattle.state.specs.Set.{with_sender, with_receiver, overran, nakked_in, nakked_out};
 
@@ -12,12 +12,13 @@ use sender::Sender;
 use window::FifoNumber;
 
 // An endpoint's place, 0 to 6.
-#[derive(Clone, Copy)]
+#[derive(Clone, Copy, PartialEq, Eq, Default)]
 pub struct Endpoint(pub u8);
 
 // What is awaited: a handshake (0, 1, 3, 5), data after an OUT (0, 2, 4, 6), or data after a SETUP (0).
-#[derive(Clone, Copy)]
+#[derive(Clone, Copy, PartialEq, Eq, Default)]
 pub enum Wait {
+    #[default]
     Nothing,
     Handshake(Endpoint),
     Data(Endpoint),
@@ -25,7 +26,7 @@ pub enum Wait {
 }
 
 // The wait, with the command byte (if `holds`) and the RXC0 flush that are held until it ends.
-#[derive(Clone, Copy)]
+#[derive(Clone, Copy, PartialEq, Eq, Default)]
 pub struct Pending {
     pub wait: Wait,
     pub holds: bool,
@@ -34,7 +35,7 @@ pub struct Pending {
 }
 
 // MAMSK, and the masks of TXEV, RXEV and NAKEV.
-#[derive(Clone, Copy)]
+#[derive(Clone, Copy, PartialEq, Eq, Default)]
 pub struct Masks {
     pub main: u8,
     pub tx: u8,
@@ -43,14 +44,15 @@ pub struct Masks {
 }
 
 // RXEV 7..4 and NAKEV, by FIFO number: overruns, NAKs to IN, NAKs to OUT.
-#[derive(Clone, Copy)]
+#[derive(Clone, Copy, PartialEq, Eq, Default)]
 pub struct Events {
     pub over: [bool; 4],
     pub nakin: [bool; 4],
     pub nakout: [bool; 4],
 }
 
-#[derive(Clone, Copy)]
+// The endpoints, and what belongs to no endpoint: `nfsr` is NFSR 1..0, `aden` and `address` are AD_EN and the address of FAR.
+#[derive(Clone, Copy, PartialEq, Eq, Default)]
 pub struct Chip {
     pub control: Control,
     pub senders: [Sender; 3],
@@ -77,39 +79,45 @@ impl Pending {
     pub fn idle() -> Pending
         ensures { result ≡ nothing }
     {
-        Pending {
-            wait: Wait::Nothing,
-            holds: false,
-            held: 0,
-            flush: false,
-        }
+        Pending::default()
     }
+}
+
+// Four flags, by FIFO number, with that of one FIFO set.
+fn flagged(mut flags: [bool; 4], number: FifoNumber) -> [bool; 4]
+    ensures { result ≡ set flags (number.0 % 4) true }
+{
+    flags[(number.0 % 4) as usize] = true;
+    flags
 }
 
 impl Events {
     // The overrun of a FIFO, a NAK to an IN for it, a NAK to an OUT for it.
-    pub fn overran(mut self, number: FifoNumber) -> Events
+    pub fn overran(self, number: FifoNumber) -> Events
         ensures { result ≡ overran number self }
     {
-        let k = (number.0 % 4) as usize;
-        self.over[k] = true;
-        self
+        Events {
+            over: flagged(self.over, number),
+            ..self
+        }
     }
 
-    pub fn nakked_in(mut self, number: FifoNumber) -> Events
+    pub fn nakked_in(self, number: FifoNumber) -> Events
         ensures { result ≡ nakked_in number self }
     {
-        let k = (number.0 % 4) as usize;
-        self.nakin[k] = true;
-        self
+        Events {
+            nakin: flagged(self.nakin, number),
+            ..self
+        }
     }
 
-    pub fn nakked_out(mut self, number: FifoNumber) -> Events
+    pub fn nakked_out(self, number: FifoNumber) -> Events
         ensures { result ≡ nakked_out number self }
     {
-        let k = (number.0 % 4) as usize;
-        self.nakout[k] = true;
-        self
+        Events {
+            nakout: flagged(self.nakout, number),
+            ..self
+        }
     }
 }
 
@@ -118,45 +126,20 @@ impl Chip {
     pub fn reset() -> Chip
         ensures { result ≡ reset_chip }
     {
-        let control = Control::reset();
-        let s = Sender::reset();
-        let r = Receiver::reset();
-        let pending = Pending::idle();
-        Chip {
-            control,
-            senders: [s; 3],
-            receivers: [r; 3],
-            nfsr: 0,
-            aden: false,
-            address: 0,
-            masks: Masks {
-                main: 0,
-                tx: 0,
-                rx: 0,
-                nak: 0,
-            },
-            events: Events {
-                over: [false; 4],
-                nakin: [false; 4],
-                nakout: [false; 4],
-            },
-            pending,
-        }
+        Chip::default()
     }
 
     // The endpoint that sends from a FIFO, and the chip with another in its place.
     pub fn sender(self, number: FifoNumber) -> Sender
         ensures { result ≡ sender_at number self }
     {
-        let i = number.index();
-        self.senders[i]
+        self.senders[number.index()]
     }
 
     pub fn with_sender(mut self, number: FifoNumber, s: Sender) -> Chip
         ensures { result ≡ with_sender number s self }
     {
-        let i = number.index();
-        self.senders[i] = s;
+        self.senders[number.index()] = s;
         self
     }
 
@@ -164,15 +147,13 @@ impl Chip {
     pub fn receiver(self, number: FifoNumber) -> Receiver
         ensures { result ≡ receiver_at number self }
     {
-        let i = number.index();
-        self.receivers[i]
+        self.receivers[number.index()]
     }
 
     pub fn with_receiver(mut self, number: FifoNumber, r: Receiver) -> Chip
         ensures { result ≡ with_receiver number r self }
     {
-        let i = number.index();
-        self.receivers[i] = r;
+        self.receivers[number.index()] = r;
         self
     }
 }

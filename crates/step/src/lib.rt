@@ -4,101 +4,48 @@
 
 ghost use Rattle.std.specs.Prelude.{◌≡◌};
 ghost use Rattle.answer.specs.Answer.{Gives};
-ghost use Rattle.step.specs.Step.{quiet, read_step, write_step, in_step, out_step, setup_step, data_step, data_step_bytes, end_step, step_of, step_bytes};
-ghost use Rattle.writes.specs.Write.{bytes_of};
+ghost use Rattle.step.specs.Step.{quiet, step_of, step_bytes};
 
 use answer::{Answer, Out};
-use event::{BusEndpoint, Event};
+use event::{Event, Token};
 use state::Chip;
+use window::Memory;
 
-// One event.
-pub fn step(c: Chip, memory: &mut [u8; 392], event: Event, s: &[u8]) -> Out
+// One event. It stays a call, as `answer::silent` and `interrupt::line` do: inlined, the chip is copied field by field, which is slower.
+#[inline(never)]
+#[tactic(auto, unfolding(crate::specs::Step::step_of, crate::specs::Step::step_bytes, crate::specs::Step::read_step, crate::specs::Step::write_step, crate::specs::Step::in_step, crate::specs::Step::out_step, crate::specs::Step::setup_step, crate::specs::Step::data_step, crate::specs::Step::data_step_bytes, crate::specs::Step::end_step, choice::specs::Choice::pick))]
+pub fn step(c: Chip, memory: &mut Memory, event: Event, s: &[u8]) -> Out
     ensures { Gives (step_of event s.now c memory.old) (step_bytes event s.now c memory.old) result memory.new }
 {
     match event {
-        Event::Read(a) => read(c, memory, a),
-        Event::Write(a, v) => write(c, memory, a, v),
-        Event::In(a, e) => in_event(c, a, e),
-        Event::Out(a, e) => out_event(c, a, e),
-        Event::Setup(a, e) => setup_event(c, a, e),
-        Event::Data(pid, sound) => data_event(c, memory, pid == 1, sound == 1, s),
-        Event::Ack => end_event(c, true),
-        Event::Timeout => end_event(c, false),
+        Event::Read(register) => {
+            let r = reads::read(c, memory, register);
+            Out {
+                chip: r.chip,
+                answer: Answer::Value(r.value),
+            }
+        }
+        Event::Write(register, v) => answer::silent(writes::write(c, memory, register, v)),
+        _ if !settings::operational(c) => answer::silent(c),
+        Event::In(address, endpoint) => bus::in_token(quiet(c, false), Token { address, endpoint }),
+        Event::Out(address, endpoint) => {
+            bus::out_token(quiet(c, false), Token { address, endpoint })
+        }
+        Event::Setup(address, endpoint) => {
+            bus::setup_token(quiet(c, false), Token { address, endpoint })
+        }
+        Event::Data(pid, sound) => {
+            data::data(ends::ended(c, false), memory, pid == 1, sound == 1, s)
+        }
+        Event::Ack => answer::silent(quiet(c, true)),
+        Event::Timeout => answer::silent(quiet(c, false)),
     }
 }
 
 // The wait for a handshake ends; awaited data does not come.
-fn quiet(mut c: Chip, acked: bool) -> Chip
+#[tactic(auto, unfolding(crate::specs::Step::quiet))]
+fn quiet(c: Chip, acked: bool) -> Chip
     ensures { result ≡ quiet acked c }
 {
-    c = ends::ended(c, acked);
-    ends::dropped(c)
-}
-
-fn read(mut c: Chip, memory: &[u8; 392], address: u8) -> Out
-    ensures { result ≡ read_step address c memory.now }
-{
-    let r = reads::read(c, memory, address);
-    c = r.chip;
-    Out {
-        chip: c,
-        answer: Answer::Value(r.value),
-    }
-}
-
-fn write(mut c: Chip, memory: &mut [u8; 392], address: u8, v: u8) -> Out
-    ensures { Gives (write_step address v c) (bytes_of address v c memory.old) result memory.new }
-{
-    c = writes::write(c, memory, address, v);
-    answer::silent(c)
-}
-
-fn in_event(mut c: Chip, address: u8, endpoint: BusEndpoint) -> Out
-    ensures { result ≡ in_step address endpoint c }
-{
-    if settings::operational(c) {
-        c = quiet(c, false);
-        return bus::in_token(c, address, endpoint);
-    }
-    answer::silent(c)
-}
-
-fn out_event(mut c: Chip, address: u8, endpoint: BusEndpoint) -> Out
-    ensures { result ≡ out_step address endpoint c }
-{
-    if settings::operational(c) {
-        c = quiet(c, false);
-        return bus::out_token(c, address, endpoint);
-    }
-    answer::silent(c)
-}
-
-fn setup_event(mut c: Chip, address: u8, endpoint: BusEndpoint) -> Out
-    ensures { result ≡ setup_step address endpoint c }
-{
-    if settings::operational(c) {
-        c = quiet(c, false);
-        return bus::setup_token(c, address, endpoint);
-    }
-    answer::silent(c)
-}
-
-fn data_event(mut c: Chip, memory: &mut [u8; 392], pid: bool, sound: bool, s: &[u8]) -> Out
-    ensures { Gives (data_step pid sound s.now c) (data_step_bytes pid sound s.now c memory.old) result memory.new }
-{
-    if settings::operational(c) {
-        c = ends::ended(c, false);
-        return data::data(c, memory, pid, sound, s);
-    }
-    answer::silent(c)
-}
-
-fn end_event(mut c: Chip, acked: bool) -> Out
-    ensures { result ≡ end_step acked c }
-{
-    if settings::operational(c) {
-        c = quiet(c, acked);
-        return answer::silent(c);
-    }
-    answer::silent(c)
+    ends::dropped(ends::ended(c, acked))
 }

@@ -6,6 +6,7 @@ use mathlib.Core.Bool.{true, false}
 use mathlib.Core.List.{List, [], ◌∷◌}
 use lib.Count.{count_trailing_zeros}
 use lib.ListN.{replicate}
+use Rattle.std.specs.Prelude.{Ok, Err}
 use Rattle.choice.specs.Choice.{pick}
 use Rattle.refusal.specs.declared.Refusal.TheVariants.{OutOfRange, NotWellFormed, OfferTooLong, PacketHeld}
 use Rattle.window.specs.Window.{index_of}
@@ -49,7 +50,7 @@ use Rattle.step.specs.Step.{quiet, read_step, write_step, in_step, out_step, set
 use Rattle.formed.specs.Formed.{sends, receives, unheld, flush_beside, held_beside, pending_for, senders_well, receivers_well, registers_well, well_formed}
 use Rattle.chip.specs.Checked.{refusing, stepped, stepped_bytes}
 use Rattle.driver.specs.declared.Driver.{Driver}
-use Rattle.driver.specs.declared.Did.TheVariants.{Nothing, Delivered, Refused}
+use Rattle.driver.specs.declared.Did.TheVariants.{Nothing, Delivered}
 use Rattle.driver.specs.Registers.{written}
 use Rattle.driver.specs.Driver.{Call, call, fresh, startable, set_up, started, admission, offered_by, offered, answered, send_served}
 use Rattle.receiving.specs.Receive.{padded, receive_served}
@@ -85,7 +86,7 @@ awaits_data e = awaits (wait.Data (record { 0 = e }))
 
 -- what a start that is refused gives
 abbrev not_started : Call
-not_started = call reset fresh (Refused OutOfRange)
+not_started = call reset fresh (Err OutOfRange)
 
 -- a driver that holds a packet, and one that has delivered it
 abbrev holding : Driver
@@ -120,14 +121,14 @@ pub record Sentences : Type 0 where
   -- "5 state not well formed": "state as given", of one event, of a run (also at the end) and of the two services
   pub given_with_5 : (m : List ℕ) → (stepped (event.Write 0x29 0x41) [] ill m ≡ refusing NotWellFormed ill) × (stepped_bytes (event.Write 0x29 0x41) [] ill m ≡ m)
   pub given_with_5_run : (run_of (hex "07") ill_run ≡ stopping (run.refused 5 0) ill_run) × (run_of [] ill_run ≡ stopping (run.refused 5 0) ill_run)
-  pub given_with_5_service : (d : Driver) → (send_served ill_model d ≡ call ill_model d (Refused NotWellFormed)) × (receive_served ill_model d ≡ call ill_model d (Refused NotWellFormed))
+  pub given_with_5_service : (d : Driver) → (send_served ill_model d ≡ call ill_model d (Err NotWellFormed)) × (receive_served ill_model d ≡ call ill_model d (Err NotWellFormed))
   -- "An event given without a trace meets 4 too, state unchanged.": the handshake is still awaited
   pub given_with_4 : (m : List ℕ) → (stepped (event.In 128 (bus_endpoint 0)) [] awaits_ack m ≡ refusing OutOfRange awaits_ack) × (stepped_bytes (event.Write 0x40 1) [] reset_chip m ≡ m)
   -- "6 driver offered over 64 bytes", "7 offered while a packet is held": "both states as given"
-  pub given_with_6 : offered (replicate 65 0x41) reset fresh ≡ call reset fresh (Refused OfferTooLong)
-  pub given_with_7 : offered (0x41 ∷ []) reset holding ≡ call reset holding (Refused PacketHeld)
+  pub given_with_6 : offered (replicate 65 0x41) reset fresh ≡ call reset fresh (Err OfferTooLong)
+  pub given_with_7 : offered (0x41 ∷ []) reset holding ≡ call reset holding (Err PacketHeld)
   -- "5 before 1 to 4, 6 and 7"
-  pub five_before_6_and_7 : offered (replicate 65 0x41) ill_model holding ≡ call ill_model holding (Refused NotWellFormed)
+  pub five_before_6_and_7 : offered (replicate 65 0x41) ill_model holding ≡ call ill_model holding (Err NotWellFormed)
   -- ---- well formed
   -- "levels within size", of FIFO0, a transmit FIFO and a receive FIFO
   pub level0_within_8 : (zero.well_formed true (filled0 8) ≡ true) × (zero.well_formed true (filled0 9) ≡ false)
@@ -176,11 +177,11 @@ pub record Sentences : Type 0 where
   pub start_e_0_and_16 : (started 5 (bus_endpoint 0) (bus_endpoint 2) ≡ not_started) × (started 5 (bus_endpoint 16) (bus_endpoint 2) ≡ not_started)
   pub start_f_0_and_16 : (started 5 (bus_endpoint 1) (bus_endpoint 0) ≡ not_started) × (started 5 (bus_endpoint 1) (bus_endpoint 16) ≡ not_started)
   -- "held and TX_DONE: with ACK_STAT flip the toggle, hold nothing"
-  pub flips_with_ack : (m : Model) → answered 0x60 m holding ≡ call m delivered Delivered
+  pub flips_with_ack : (m : Model) → answered 0x60 m holding ≡ call m delivered (Ok Delivered)
   -- "The answer itself has room for 64 bytes, unused ones 0"
   pub room_for_64 : padded (0x41 ∷ 0x42 ∷ []) ≡ 0x41 ∷ 0x42 ∷ replicate 62 0
   -- "Neither flag: nothing.": 2F is not written, so RX_EN is not set, whatever was counted
-  pub no_flag_no_write : (m : Model) (d : Driver) → receiving.judged 0x0F m d ≡ call m d Nothing
+  pub no_flag_no_write : (m : Model) (d : Driver) → receiving.judged 0x0F m d ≡ call m d (Ok Nothing)
 
 pub sentences : Sentences
 unfolding figure pairs count_trailing_zeros pick index_of store_all bytes_from rcount put0 take0 fill0 put_tx refill_tx take_rx fill_rx ranges event_of count_of kind_of values_of within in_range number_from before field fields_at body_at record_at read_at takes heard moved marked command sent sender.answer_in sender.near sender.well_formed flushed judged received received_bytes receiver.well_formed zero.unmarked_empty zero.well_formed flushed_by tx_command rx_bits disabled handshake judge_out stored zero-bus.answer_in refused judge_setup after_setup maev line stop_sender stop_receiver stop_zero nfsr_write mask_write mask_of control_read sender_read receiver_read read_of control_command receive_command control_write control_bytes sender_command sender_write sender_bytes receiver_write write_of bytes_of own zero_takes sender_takes receiver_takes in_mask out_mask winner packet_of idled done_flush done_byte sender_byte ended_zero ended_sender ended_at dropped_setup marked_out overrun data_zero data_zero_bytes data_receiver data_receiver_bytes data_setup data_setup_bytes data_at data_at_bytes awaiting marked_in in_zero in_sender in_at out_at setup_token quiet read_step write_step in_step out_step setup_step data_step data_step_bytes end_step step_of step_bytes sends receives unheld flush_beside held_beside pending_for senders_well receivers_well registers_well well_formed stepped stepped_bytes written startable set_up started admission offered_by offered answered send_served receiving.judged receive_served run_of overlay last_digits decimal packet_bytes hex_bytes payload_text value_text answer_text line_text refusal_text did line_of shown output_from output

@@ -1,6 +1,6 @@
 -- Who takes a token.
 -- 01: "A token matches if AD_EN is set and the address agrees; endpoint 0 also at address 0 with DEF, AD_EN or not (H)."
-use Rattle.std.specs.Prelude.{ℕ, ◌+◌, ◌*◌, ◌%◌, Bool, ◌&&◌, ◌||◌, eqb}
+use Rattle.std.specs.Prelude.{ℕ, ◌+◌, ◌*◌, ◌%◌, Bool, ◌&&◌, ◌||◌, eqb, Option, None, Some}
 use Rattle.std.specs.Int.Count.{count_trailing_zeros}
 use Rattle.choice.specs.Choice.{pick}
 use Rattle.window.specs.declared.FifoNumber.{FifoNumber}
@@ -10,8 +10,7 @@ use Rattle.epc.specs.Bits.{bit_of}
 use Rattle.epc.specs.Epc.{takes}
 use Rattle.state.specs.declared.Chip.{Chip}
 use Rattle.state.specs.State.{sender_at, receiver_at}
-use Rattle.tokens.specs.declared.Match.{Match}
-use Rattle.tokens.specs.declared.Match.TheVariants.{Nobody, Takes}
+use Rattle.state.specs.declared.Endpoint.{Endpoint}
 
 -- "AD_EN is set and the address agrees"
 unfoldable pub own : ℕ → Chip → Bool
@@ -44,5 +43,5 @@ out_mask address e c =
     + 64 * bit_of (receiver_takes address e (numbered 3) c)
 
 -- "the lowest-numbered of all that match takes the token. No match: silence."
-unfoldable pub winner : ℕ → Match
-winner mask = pick (eqb mask 0) Nobody (Takes (record { 0 = count_trailing_zeros 32 mask % 8 }))
+unfoldable pub winner : ℕ → Option Endpoint
+winner mask = pick (eqb mask 0) None (Some (record { 0 = count_trailing_zeros 32 mask % 8 }))

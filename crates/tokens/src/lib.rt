@@ -5,98 +5,77 @@
 ghost use Rattle.std.specs.Prelude.{◌≡◌};
 ghost use Rattle.tokens.specs.Tokens.{own, zero_takes, sender_takes, receiver_takes, in_mask, out_mask, winner};
 
-use event::BusEndpoint;
+use event::{BusEndpoint, Token};
 use state::{Chip, Endpoint};
 use window::FifoNumber;
 
-// Nobody, or the endpoint that takes the token.
-#[derive(Clone, Copy)]
-pub enum Match {
-    Nobody,
-    Takes(Endpoint),
-}
-
 // AD_EN is set and the address agrees.
+#[tactic(auto, unfolding(crate::specs::Tokens::own))]
 pub fn own(c: Chip, address: u8) -> bool
     ensures { result ≡ own address c }
 {
-    if c.aden {
-        return c.address == address;
-    }
-    false
+    c.aden && c.address == address
 }
 
 // Endpoint 0: also at address 0 with DEF.
-pub fn zero_takes(c: Chip, address: u8, endpoint: BusEndpoint) -> bool
-    ensures { result ≡ zero_takes address endpoint c }
+#[tactic(auto, unfolding(crate::specs::Tokens::zero_takes))]
+pub fn zero_takes(c: Chip, token: Token) -> bool
+    ensures { result ≡ zero_takes token.address token.endpoint c }
 {
-    if endpoint.0 == 0 {
-        if own(c, address) {
-            return true;
-        }
-        if address == 0 {
-            let z = c.control;
-            return z.def;
-        }
-        return false;
-    }
-    false
+    token.endpoint == BusEndpoint(0)
+        && (own(c, token.address) || token.address == 0 && c.control.def)
 }
 
 // The endpoint that sends from a FIFO, and the one that receives into it.
-fn sender_takes(c: Chip, address: u8, endpoint: BusEndpoint, number: FifoNumber) -> bool
-    ensures { result ≡ sender_takes address endpoint number c }
+#[tactic(auto, unfolding(crate::specs::Tokens::sender_takes))]
+fn sender_takes(c: Chip, token: Token, number: FifoNumber) -> bool
+    ensures { result ≡ sender_takes token.address token.endpoint number c }
 {
-    if own(c, address) {
-        let s = c.sender(number);
-        let p = s.epc;
-        return p.takes(endpoint);
-    }
-    false
+    own(c, token.address) && c.sender(number).epc.takes(token.endpoint)
 }
 
-fn receiver_takes(c: Chip, address: u8, endpoint: BusEndpoint, number: FifoNumber) -> bool
-    ensures { result ≡ receiver_takes address endpoint number c }
+#[tactic(auto, unfolding(crate::specs::Tokens::receiver_takes))]
+fn receiver_takes(c: Chip, token: Token, number: FifoNumber) -> bool
+    ensures { result ≡ receiver_takes token.address token.endpoint number c }
 {
-    if own(c, address) {
-        let s = c.receiver(number);
-        let p = s.epc;
-        return p.takes(endpoint);
-    }
-    false
+    own(c, token.address) && c.receiver(number).epc.takes(token.endpoint)
 }
 
 // The endpoints that match an IN token: bits 0, 1, 3, 5.
-pub fn in_mask(c: Chip, address: u8, endpoint: BusEndpoint) -> u32
-    ensures { result ≡ in_mask address endpoint c }
+#[tactic(auto, unfolding(crate::specs::Tokens::in_mask))]
+pub fn in_mask(c: Chip, token: Token) -> u32
+    ensures { result ≡ in_mask token.address token.endpoint c }
 {
-    let z = epc::bit(zero_takes(c, address, endpoint));
-    let x = epc::bit(sender_takes(c, address, endpoint, FifoNumber(1)));
-    let y = epc::bit(sender_takes(c, address, endpoint, FifoNumber(2)));
-    let w = epc::bit(sender_takes(c, address, endpoint, FifoNumber(3)));
-    let m = z + 2 * x + 8 * y + 32 * w;
-    m as u32
+    let takes = |k: FifoNumber| epc::bit(sender_takes(c, token, k));
+    u32::from(
+        epc::bit(zero_takes(c, token))
+            + 2 * takes(FifoNumber(1))
+            + 8 * takes(FifoNumber(2))
+            + 32 * takes(FifoNumber(3)),
+    )
 }
 
 // The endpoints that match an OUT token: bits 0, 2, 4, 6.
-pub fn out_mask(c: Chip, address: u8, endpoint: BusEndpoint) -> u32
-    ensures { result ≡ out_mask address endpoint c }
+#[tactic(auto, unfolding(crate::specs::Tokens::out_mask))]
+pub fn out_mask(c: Chip, token: Token) -> u32
+    ensures { result ≡ out_mask token.address token.endpoint c }
 {
-    let z = epc::bit(zero_takes(c, address, endpoint));
-    let x = epc::bit(receiver_takes(c, address, endpoint, FifoNumber(1)));
-    let y = epc::bit(receiver_takes(c, address, endpoint, FifoNumber(2)));
-    let w = epc::bit(receiver_takes(c, address, endpoint, FifoNumber(3)));
-    let m = z + 4 * x + 16 * y + 64 * w;
-    m as u32
+    let takes = |k: FifoNumber| epc::bit(receiver_takes(c, token, k));
+    u32::from(
+        epc::bit(zero_takes(c, token))
+            + 4 * takes(FifoNumber(1))
+            + 16 * takes(FifoNumber(2))
+            + 64 * takes(FifoNumber(3)),
+    )
 }
 
 // The lowest-numbered endpoint of a mask.
-pub fn winner(mask: u32) -> Match
+#[tactic(auto, unfolding(crate::specs::Tokens::winner, choice::specs::Choice::pick))]
+pub fn winner(mask: u32) -> Option<Endpoint>
     ensures { result ≡ winner mask }
 {
     if mask == 0 {
-        return Match::Nobody;
+        return None;
     }
-    let t = u32::trailing_zeros(mask);
-    Match::Takes(Endpoint((t % 8) as u8))
+    Some(Endpoint((mask.trailing_zeros() % 8) as u8))
 }

@@ -1,12 +1,11 @@
 -- A record that has no payload ends where its fields end.
 -- Assumes nothing.
 use Prim.Native.Nat.{ℕ}
-use mathlib.Core.Path.{◌≡◌, refl}
-use mathlib.Core.List.{List, [], ◌∷◌}
+use mathlib.Core.Path.{◌≡◌}
+use mathlib.Core.List.{List}
 use native.Mathlib.Nat.{add-zero}
 use lib.Dec.{leb-zero}
 use Rattle.choice.specs.Choice.{pick}
-use Rattle.choice.proofs.ByTest.{by_test}
 use Rattle.event.specs.Event.{event_of, count_of}
 use Rattle.trace.specs.Record.{fields, event, body_at}
 
@@ -14,8 +13,3 @@ pub whole_body : (trace : List ℕ) (at kind : ℕ) (vs : List ℕ) (next : ℕ)
     → event (event_of kind vs) next next ≡ body_at trace at kind (fields vs next)
 unfolding body_at pick
 whole_body trace at kind vs next h = simp (h, leb-zero, add-zero)
-
--- the count is a third field, so two fields have none
-pub no_count : (kind a b : ℕ) → count_of kind (a ∷ b ∷ []) ≡ 0
-unfolding count_of
-no_count kind a b = by_test (λ n. n ≡ 0) _ (λ _. refl) (λ _. refl)

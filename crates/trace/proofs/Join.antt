@@ -1,52 +1,29 @@
--- Fields read in two runs, one after the other, are the fields of both.
+-- Fields read one by one are those read so far, in front of the fields that are still to be read.
 -- Assumes nothing.
 use Prim.Native.Nat.{ℕ}
-use mathlib.Core.Path.{◌≡◌, refl}
-use mathlib.Core.Bool.{Bool, true, false}
+use mathlib.Core.Path.{◌≡◌, refl, ap}
 use mathlib.Core.List.{List, [], ◌∷◌, ◌++◌}
-use lib.Dec.{leb}
-use Rattle.choice.specs.Choice.{pick}
-use Rattle.trace.specs.Number.{Taken, value, refused, number_at}
-use Rattle.trace.specs.Record.{Fields, fields, rejected, before, field, fields_at}
+use Rattle.trace.specs.Record.{Fields, fields, rejected, before}
 
 -- values in front of fields that were read or not
 unfoldable pub prepend : List ℕ → Fields → Fields
 prepend [] f = f
 prepend (v ∷ vs) f = before v (prepend vs f)
 
-unfoldable pub join : Fields → (ℕ → Fields) → Fields
-join (fields vs next) others = prepend vs (others next)
-join (rejected k) others = rejected k
+-- one more of them
+pub prepend_one : (vs : List ℕ) (v : ℕ) (f : Fields) → prepend (vs ++ v ∷ []) f ≡ prepend vs (before v f)
+unfolding prepend
+prepend_one [] v f = refl
+prepend_one (w ∷ vs) v f = ap (before w) (prepend_one vs v f)
 
-before_join : (v : ℕ) (f : Fields) (others : ℕ → Fields) → before v (join f others) ≡ join (before v f) others
-unfolding before join prepend
-before_join v (fields vs next) others = refl
-before_join v (rejected k) others = refl
+-- a refusal ends it, whatever was read
+pub prepend_rejected : (vs : List ℕ) (k : ℕ) → prepend vs (rejected k) ≡ rejected k
+unfolding prepend before
+prepend_rejected [] k = refl
+prepend_rejected (v ∷ vs) k = rw (prepend_rejected vs k)
 
-field_join : (most : ℕ) (t : Taken) (one both two : ℕ → Fields) → ((n : ℕ) → both n ≡ join (one n) two)
-    → field most t both ≡ join (field most t one) two
-unfolding field join pick
-field_join most (refused k) one both two h = refl
-field_join most (value v n) one both two h = go (leb v most)
-  where
-    go : (b : Bool) → pick b (before v (both n)) (rejected 4) ≡ join (pick b (before v (one n)) (rejected 4)) two
-    go true = rw h (before_join v (one n) two)
-    go false = refl
-
-fields_append : (trace : List ℕ) (at : ℕ) (ms ns : List ℕ) → fields_at trace at (ms ++ ns) ≡ join (fields_at trace at ms) (λ n. fields_at trace n ns)
-unfolding fields_at join prepend
-fields_append trace at [] ns = refl
-fields_append trace at (m ∷ ms) ns =
-    field_join m (number_at trace at) (λ n. fields_at trace n ms) (λ n. fields_at trace n (ms ++ ns)) (λ n. fields_at trace n ns)
-    (λ n. fields_append trace n ms ns)
-
-module _ (trace : List ℕ) (at : ℕ) (ms ns : List ℕ) where
-  -- the first run was read: the second one decides
-  pub joined : {vs : List ℕ} {next : ℕ} {f : Fields} → fields vs next ≡ fields_at trace at ms → f ≡ fields_at trace next ns → prepend vs f ≡ fields_at trace at (ms ++ ns)
-  unfolding join
-  joined p q = rw (fields_append, ← p, q)
-
-  -- the first run was refused: so are both
-  pub stopped : {k : ℕ} → rejected k ≡ fields_at trace at ms → rejected k ≡ fields_at trace at (ms ++ ns)
-  unfolding join
-  stopped p = rw (fields_append, ← p)
+-- and at the end there are those that were read
+pub prepend_fields : (vs : List ℕ) (next : ℕ) → prepend vs (fields [] next) ≡ fields vs next
+unfolding prepend before
+prepend_fields [] next = refl
+prepend_fields (v ∷ vs) next = rw (prepend_fields vs next)

@@ -1,44 +1,36 @@
 -- Document 01's number and values for each case of the reader's answers.
-use Rattle.std.specs.Prelude.{ℕ, [], ◌∷◌}
+use Rattle.std.specs.Prelude.{ℕ, List, [], ◌∷◌, Option, Some, None, Result, Ok, Err}
+use Rattle.refusal.specs.declared.Refusal.{Refusal}
 use Rattle.refusal.specs.Refusal.{number_of}
-use Rattle.trace.specs.declared.Token.{Token}
-use Rattle.trace.specs.declared.Token.TheVariants as token
-use Rattle.trace.specs.declared.Found.{Found}
-use Rattle.trace.specs.declared.Found.TheVariants as found
-use Rattle.trace.specs.declared.fields.Taken as taken-type
-use Rattle.trace.specs.declared.fields.Taken.TheVariants as taken
-use Rattle.trace.specs.declared.fields.One.{One}
-use Rattle.trace.specs.declared.fields.One.TheVariants as one
-use Rattle.trace.specs.declared.fields.Two.{Two}
-use Rattle.trace.specs.declared.fields.Two.TheVariants as two
-use Rattle.trace.specs.declared.fields.Three.{Three}
-use Rattle.trace.specs.declared.fields.Three.TheVariants as three
+use Rattle.event.specs.declared.Event.{Event}
+use Rattle.event.specs.declared.Token.{Token}
+use Rattle.trace.specs.declared.Span.{Span}
+use Rattle.trace.specs.declared.Refused.{Refused}
 use Rattle.trace.specs.Number.{Taken, value, refused}
 use Rattle.trace.specs.Record.{Fields, fields, rejected, Reading, event, end, refuse}
 
--- "3, 4, 5 IN, OUT, SETUP token"
-abbrev pub token_kind : Token → ℕ
-token_kind token.In = 3
-token_kind token.Out = 4
-token_kind token.Setup = 5
+-- the answers of the reader
+abbrev pub Found : Type 0
+Found = Result (Option (Event × Span)) Refused
 
 abbrev pub meaning : Found → Reading
-meaning (found.Record e span) = event e span.payload span.next
-meaning found.End = end
-meaning (found.Refused r at) = refuse (number_of r) at
+meaning (Ok (Some (e, span))) = event e span.payload span.next
+meaning (Ok None) = end
+meaning (Err r) = refuse (number_of r.why) r.place
 
-abbrev pub taken_of : taken-type.Taken → Taken
-taken_of (taken.Value v next) = value v next
-taken_of (taken.Refused r) = refused (number_of r)
+-- and of its parts, of a record that starts at a place
+abbrev pub told : ℕ → Result (Event × Span) Refusal → Reading
+told at (Ok (e, span)) = event e span.payload span.next
+told at (Err r) = refuse (number_of r) at
 
-abbrev pub one_of : One → Fields
-one_of (one.Value v next) = fields (v ∷ []) next
-one_of (one.Refused r) = rejected (number_of r)
+abbrev pub taken_of : Result (ℕ × ℕ) Refusal → Taken
+taken_of (Ok (v, next)) = value v next
+taken_of (Err r) = refused (number_of r)
 
-abbrev pub two_of : Two → Fields
-two_of (two.Values a b next) = fields (a ∷ b ∷ []) next
-two_of (two.Refused r) = rejected (number_of r)
+abbrev pub fields_of : Result (List ℕ × ℕ) Refusal → Fields
+fields_of (Ok (vs, next)) = fields vs next
+fields_of (Err r) = rejected (number_of r)
 
-abbrev pub three_of : Three → Fields
-three_of (three.Values a b c next) = fields (a ∷ b ∷ c ∷ []) next
-three_of (three.Refused r) = rejected (number_of r)
+abbrev pub token_of : Result (Token × ℕ) Refusal → Fields
+token_of (Ok (t, next)) = fields (t.address ∷ t.endpoint.0 ∷ []) next
+token_of (Err r) = rejected (number_of r)

@@ -5,10 +5,10 @@
 ghost use Rattle.std.specs.Prelude.{◌≡◌};
 ghost use Rattle.txfifo.specs.Transmit.{reset_tx, PutTx, spend_tx, refill_tx, mark_tx};
 
-use window::{FifoNumber, Kind, Window};
+use window::{FifoNumber, Kind, Memory, Window};
 
 // `saved` is the read pointer that a refill goes back to.
-#[derive(Clone, Copy)]
+#[derive(Clone, Copy, PartialEq, Eq, Default)]
 pub struct TxFifo {
     pub read: u8,
     pub write: u8,
@@ -21,27 +21,22 @@ impl TxFifo {
     pub fn reset() -> TxFifo
         ensures { result ≡ reset_tx }
     {
-        TxFifo {
-            read: 0,
-            write: 0,
-            saved: 0,
-        }
+        TxFifo::default()
     }
 
     // Appends a byte; ignored when full.
-    pub fn put(mut self, memory: &mut [u8; 392], number: FifoNumber, b: u8) -> TxFifo
+    #[tactic(auto, unfolding(crate::specs::Transmit::put_tx, choice::specs::Choice::pick))]
+    pub fn put(mut self, memory: &mut Memory, number: FifoNumber, b: u8) -> TxFifo
         ensures { PutTx number self b memory.old result memory.new }
     {
-        let n = ring::level(self.read, self.write);
-        if TxFifo::SIZE <= n {
-            return self;
+        if ring::level(self.read, self.write) < TxFifo::SIZE {
+            let window = Window {
+                kind: Kind::Transmit,
+                number,
+            };
+            ring::store(memory, window, self.write, b);
+            self.write = ring::next(self.write);
         }
-        let window = Window {
-            kind: Kind::Transmit,
-            number,
-        };
-        ring::store(memory, window, self.write, b);
-        self.write = ring::next(self.write);
         self
     }
 
@@ -54,11 +49,11 @@ impl TxFifo {
     }
 
     // Read goes back to saved where write - saved is at most 64, and else nowhere.
+    #[tactic(auto, unfolding(crate::specs::Transmit::refill_tx, choice::specs::Choice::pick))]
     pub fn refill(mut self) -> TxFifo
         ensures { result ≡ refill_tx self }
     {
-        let n = ring::level(self.saved, self.write);
-        if n <= TxFifo::SIZE {
+        if ring::level(self.saved, self.write) <= TxFifo::SIZE {
             self.read = self.saved;
         }
         self
@@ -73,12 +68,9 @@ impl TxFifo {
     }
 
     // Zeroes the counters; the bytes in memory stay.
-    pub fn flush(mut self) -> TxFifo
+    pub fn flush(self) -> TxFifo
         ensures { result ≡ reset_tx }
     {
-        self.read = 0;
-        self.write = 0;
-        self.saved = 0;
-        self
+        TxFifo::default()
     }
 }

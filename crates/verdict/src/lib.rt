@@ -6,7 +6,7 @@ ghost use Rattle.std.specs.Prelude.{◌≡◌};
 ghost use Rattle.verdict.specs.Verdict.{heard, is_ack};
 
 // Nothing, NAK with its NAKEV bit, STALL, NAK with the overrun bit and without its NAKEV bit, ACK.
-#[derive(Clone, Copy)]
+#[derive(Clone, Copy, PartialEq, Eq)]
 pub enum Judged {
     Silence,
     Nak,
@@ -17,25 +17,17 @@ pub enum Judged {
 
 impl Judged {
     // Unsound data is met with silence.
+    #[tactic(auto, unfolding(crate::specs::Verdict::heard, choice::specs::Choice::pick))]
     pub fn heard(self, sound: bool) -> Judged
         ensures { result ≡ heard sound self }
     {
-        if sound {
-            return self;
-        }
-        Judged::Silence
+        if sound { self } else { Judged::Silence }
     }
 
     // Whether the data is acknowledged.
     pub fn is_ack(self) -> bool
         ensures { result ≡ is_ack self }
     {
-        match self {
-            Judged::Silence => false,
-            Judged::Nak => false,
-            Judged::Stall => false,
-            Judged::Overrun => false,
-            Judged::Ack => true,
-        }
+        self == Judged::Ack
     }
 }

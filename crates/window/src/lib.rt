@@ -5,12 +5,15 @@
 ghost use Rattle.std.specs.Prelude.{◌≡◌, ◌+◌, ◌≤◌};
 ghost use Rattle.window.specs.Window.{index_of, size_of, start_of};
 
+// The lent memory of all seven FIFOs: 8 + 3 * 64 + 3 * 64 bytes.
+pub type Memory = [u8; 392];
+
 // A FIFO's number in the data sheet: 0 for FIFO0, 1 to 3 for TXFIFO1 to 3 and for RXFIFO1 to 3.
-#[derive(Clone, Copy)]
+#[derive(Clone, Copy, PartialEq, Eq)]
 pub struct FifoNumber(pub u8);
 
 // The three kinds of FIFO: FIFO0 of the control endpoint, TXFIFO1 to 3, RXFIFO1 to 3.
-#[derive(Clone, Copy)]
+#[derive(Clone, Copy, PartialEq, Eq)]
 pub enum Kind {
     Control,
     Transmit,
@@ -18,7 +21,7 @@ pub enum Kind {
 }
 
 // The stretch of the lent memory in which a FIFO's bytes stand.
-#[derive(Clone, Copy)]
+#[derive(Clone, Copy, PartialEq, Eq)]
 pub struct Window {
     pub kind: Kind,
     pub number: FifoNumber,
@@ -26,11 +29,11 @@ pub struct Window {
 
 impl FifoNumber {
     // How many of its kind stand before it; every number but 1 and 2 is taken for the third.
+    #[tactic(auto, unfolding(crate::specs::Window::index_of, choice::specs::Choice::pick))]
     pub fn index(self) -> usize
         ensures { (result ≡ index_of self) × (result ≤ 2) }
     {
-        let n = self.0;
-        match n {
+        match self.0 {
             1 => 0,
             2 => 1,
             _ => 2,
@@ -48,8 +51,7 @@ impl Window {
     pub fn size(self) -> u8
         ensures { result ≡ size_of self.kind }
     {
-        let kind = self.kind;
-        match kind {
+        match self.kind {
             Kind::Control => Window::FIFO0_SIZE,
             Kind::Transmit => Window::TXFIFO_SIZE,
             Kind::Receive => Window::RXFIFO_SIZE,
@@ -60,12 +62,10 @@ impl Window {
     pub fn start(self) -> usize
         ensures { (result ≡ start_of self.kind self.number) × (result + size_of self.kind ≤ 392) }
     {
-        let kind = self.kind;
-        let number = self.number;
-        match kind {
+        match self.kind {
             Kind::Control => 0,
-            Kind::Transmit => 8 + 64 * number.index(),
-            Kind::Receive => 200 + 64 * number.index(),
+            Kind::Transmit => 8 + 64 * self.number.index(),
+            Kind::Receive => 200 + 64 * self.number.index(),
         }
     }
 }

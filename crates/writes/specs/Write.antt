@@ -4,7 +4,7 @@ use Rattle.choice.specs.Choice.{pick}
 use Rattle.window.specs.declared.FifoNumber.{FifoNumber}
 use Rattle.fifo0.specs.Control.{put0, put0_bytes}
 use Rattle.txfifo.specs.Transmit.{put_tx, put_tx_bytes}
-use Rattle.epc.specs.declared.Epc.{Epc}
+use Rattle.epc.specs.declared.Epc as epc
 use Rattle.epc.specs.Bits.{has, odd}
 use Rattle.epc.specs.Epc.{epc_of}
 use Rattle.sender.specs.declared.Sender.{Sender}
@@ -16,6 +16,8 @@ use Rattle.control.specs.Registers as control-registers
 use Rattle.state.specs.declared.Chip.{Chip}
 use Rattle.state.specs.State.{sender_at, receiver_at, reset_chip, zero_place}
 use Rattle.state.specs.Set.{with_control, with_sender, with_receiver, with_pending}
+use Rattle.slot.specs.declared.Register.{Register}
+use Rattle.slot.specs.declared.Register.TheVariants.{Epc, Data, Status, Command}
 use Rattle.slot.specs.Slot.{slot_of, sending}
 use Rattle.settings.specs.Settings.{operational, awaits, held_byte, far_write, nfsr_write, mask_write}
 
@@ -61,7 +63,7 @@ pub record ControlWrite (a v : ℕ) (c : Chip) (m : List ℕ) (r : Chip) (m' : L
 
 -- ---- endpoints 1 to 6
 
-abbrev pub sender_epc : Epc → Sender → Sender
+abbrev pub sender_epc : epc.Epc → Sender → Sender
 sender_epc p s =
     record {
       fifo = s.fifo;
@@ -75,7 +77,7 @@ sender_epc p s =
       enabled = s.enabled;
     }
 
-abbrev pub receiver_epc : Epc → Receiver → Receiver
+abbrev pub receiver_epc : epc.Epc → Receiver → Receiver
 receiver_epc p s =
     record {
       fifo = s.fifo;
@@ -93,26 +95,28 @@ receiver_epc p s =
 unfoldable pub sender_command : FifoNumber → ℕ → Chip → Chip
 sender_command n v c = pick (awaits (sending n) c) (held_byte v c) (with_sender n (sender.command (operational c) v (sender_at n c)) c)
 
-unfoldable pub sender_write : ℕ → FifoNumber → ℕ → Chip → Chip
-sender_write register n v c =
-    pick (eqb register 0) (with_sender n (sender_epc (epc_of v) (sender_at n c)) c)
-    (pick (eqb register 1) (with_sender n (sender.with_fifo (put_tx (sender_at n c).fifo) (sender_at n c)) c)
-    (pick (eqb register 3) (sender_command n v c)
-    c))
+unfoldable pub sender_write : Register → FifoNumber → ℕ → Chip → Chip
+sender_write Epc n v c = with_sender n (sender_epc (epc_of v) (sender_at n c)) c
+sender_write Data n v c = with_sender n (sender.with_fifo (put_tx (sender_at n c).fifo) (sender_at n c)) c
+sender_write Status n v c = c
+sender_write Command n v c = sender_command n v c
 
-unfoldable pub sender_bytes : ℕ → FifoNumber → ℕ → Chip → List ℕ → List ℕ
-sender_bytes register n v c m = pick (eqb register 1) (put_tx_bytes n (sender_at n c).fifo v m) m
+unfoldable pub sender_bytes : Register → FifoNumber → ℕ → Chip → List ℕ → List ℕ
+sender_bytes Epc n v c m = m
+sender_bytes Data n v c m = put_tx_bytes n (sender_at n c).fifo v m
+sender_bytes Status n v c m = m
+sender_bytes Command n v c m = m
 
-pub record SenderWrite (register : ℕ) (n : FifoNumber) (v : ℕ) (c : Chip) (m : List ℕ) (r : Chip) (m' : List ℕ) : Type 0 where
+pub record SenderWrite (register : Register) (n : FifoNumber) (v : ℕ) (c : Chip) (m : List ℕ) (r : Chip) (m' : List ℕ) : Type 0 where
   pub state : r ≡ sender_write register n v c
   pub bytes : m' ≡ sender_bytes register n v c m
 
 -- "RXD writes are ignored"; "an RXC write acts at once"
-unfoldable pub receiver_write : ℕ → FifoNumber → ℕ → Chip → Chip
-receiver_write register n v c =
-    pick (eqb register 0) (with_receiver n (receiver_epc (epc_of v) (receiver_at n c)) c)
-    (pick (eqb register 3) (with_receiver n (receiver.command (operational c) v (receiver_at n c)) c)
-    c)
+unfoldable pub receiver_write : Register → FifoNumber → ℕ → Chip → Chip
+receiver_write Epc n v c = with_receiver n (receiver_epc (epc_of v) (receiver_at n c)) c
+receiver_write Data n v c = c
+receiver_write Status n v c = c
+receiver_write Command n v c = with_receiver n (receiver.command (operational c) v (receiver_at n c)) c
 
 abbrev pub endpoint_write : ℕ → ℕ → Chip → Chip
 endpoint_write a v c =

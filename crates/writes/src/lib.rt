@@ -6,11 +6,15 @@ ghost use Rattle.std.specs.Prelude.{◌≡◌};
 ghost use Rattle.writes.specs.Write.{control_command, receive_command, sender_command, ControlWrite, SenderWrite, EndpointWrite, receiver_write, epc_write0, ControlPut, WriteTo};
 
 use epc::Epc;
+use receiver::Receiver;
+use sender::Sender;
+use slot::Register;
 use state::{Chip, Endpoint};
-use window::FifoNumber;
+use window::{FifoNumber, Memory};
 
 // A register write.
-pub fn write(c: Chip, memory: &mut [u8; 392], address: u8, v: u8) -> Chip
+#[tactic(auto, unfolding(crate::specs::Write::write_of, crate::specs::Write::bytes_of, choice::specs::Choice::pick))]
+pub fn write(c: Chip, memory: &mut Memory, address: u8, v: u8) -> Chip
     ensures { WriteTo address v c memory.old result memory.new }
 {
     match address {
@@ -28,7 +32,8 @@ pub fn write(c: Chip, memory: &mut [u8; 392], address: u8, v: u8) -> Chip
 }
 
 // 20 to 27: endpoint 0.
-fn control(c: Chip, memory: &mut [u8; 392], address: u8, v: u8) -> Chip
+#[tactic(auto, unfolding(crate::specs::Write::control_write, crate::specs::Write::control_bytes, choice::specs::Choice::pick))]
+fn control(c: Chip, memory: &mut Memory, address: u8, v: u8) -> Chip
     ensures { ControlWrite address v c memory.old result memory.new }
 {
     match address {
@@ -43,117 +48,113 @@ fn control(c: Chip, memory: &mut [u8; 392], address: u8, v: u8) -> Chip
 fn epc0(mut c: Chip, v: u8) -> Chip
     ensures { result ≡ epc_write0 v c }
 {
-    let mut z = c.control;
-    z = z.with_epc(v);
-    c.control = z;
+    c.control = c.control.with_epc(v);
     c
 }
 
 // TXD0: ignored while endpoint 0 awaits a handshake.
-fn put0(mut c: Chip, memory: &mut [u8; 392], v: u8) -> Chip
+#[tactic(auto, unfolding(choice::specs::Choice::pick))]
+fn put0(mut c: Chip, memory: &mut Memory, v: u8) -> Chip
     ensures { ControlPut v c memory.old result memory.new }
 {
-    if settings::awaits(c, Endpoint(0)) {
-        return c;
+    if !settings::awaits(c, Endpoint(0)) {
+        c.control = c.control.put(memory, v);
     }
-    let mut z = c.control;
-    z = z.put(memory, v);
-    c.control = z;
     c
 }
 
 // TXC0: held while endpoint 0 awaits a handshake.
+#[tactic(auto, unfolding(crate::specs::Write::control_command, choice::specs::Choice::pick))]
 fn command0(mut c: Chip, v: u8) -> Chip
     ensures { result ≡ control_command v c }
 {
     if settings::awaits(c, Endpoint(0)) {
         return settings::held(c, v);
     }
-    let mut z = c.control;
-    z = z.tx_command(v, settings::operational(c));
-    c.control = z;
+    c.control = c.control.tx_command(v, settings::operational(c));
     c
 }
 
 // RXC0: its bits at once; its flush is held while endpoint 0 awaits a handshake.
+#[tactic(auto, unfolding(crate::specs::Write::receive_command, choice::specs::Choice::pick))]
 fn receive0(mut c: Chip, v: u8) -> Chip
     ensures { result ≡ receive_command v c }
 {
-    let mut z = c.control;
     let on = settings::operational(c);
     if settings::awaits(c, Endpoint(0)) {
-        z = z.rx_bits(v, on);
-        c.control = z;
+        c.control = c.control.rx_bits(v, on);
         if v / 8 % 2 == 1 {
-            let mut p = c.pending;
-            p.flush = true;
-            c.pending = p;
+            c.pending.flush = true;
         }
-        return c;
+    } else {
+        c.control = c.control.rx_command(v, on);
     }
-    z = z.rx_command(v, on);
-    c.control = z;
     c
 }
 
 // 28 to 3F: endpoints 1 to 6.
-fn endpoint(c: Chip, memory: &mut [u8; 392], address: u8, v: u8) -> Chip
+#[tactic(auto, unfolding(choice::specs::Choice::pick))]
+fn endpoint(c: Chip, memory: &mut Memory, address: u8, v: u8) -> Chip
     ensures { EndpointWrite address v c memory.old result memory.new }
 {
     let b = slot::block(address);
     if b.sends {
-        return sender(c, memory, b.number, b.register, v);
+        sender(c, memory, b.number, b.register, v)
+    } else {
+        receiver(c, b.number, b.register, v)
     }
-    receiver(c, b.number, b.register, v)
 }
 
 // EPC, TXD, TXC of the endpoint that sends from a FIFO.
-fn sender(c: Chip, memory: &mut [u8; 392], number: FifoNumber, register: u8, v: u8) -> Chip
+#[tactic(auto, unfolding(crate::specs::Write::sender_write, crate::specs::Write::sender_bytes))]
+fn sender(c: Chip, memory: &mut Memory, number: FifoNumber, register: Register, v: u8) -> Chip
     ensures { SenderWrite register number v c memory.old result memory.new }
 {
-    let mut s = c.sender(number);
+    let s = c.sender(number);
     match register {
-        0 => {
-            let e = Epc::of(v);
-            s.epc = e;
-            c.with_sender(number, s)
-        }
-        1 => {
-            s = s.put(memory, number, v);
-            c.with_sender(number, s)
-        }
-        3 => command(c, number, v),
-        _ => c,
+        Register::Epc => c.with_sender(
+            number,
+            Sender {
+                epc: Epc::of(v),
+                ..s
+            },
+        ),
+        Register::Data => c.with_sender(number, s.put(memory, number, v)),
+        Register::Status => c,
+        Register::Command => command(c, number, v),
     }
 }
 
 // TXC: held while that endpoint awaits a handshake.
+#[tactic(auto, unfolding(crate::specs::Write::sender_command, choice::specs::Choice::pick))]
 fn command(c: Chip, number: FifoNumber, v: u8) -> Chip
     ensures { result ≡ sender_command number v c }
 {
     if settings::awaits(c, slot::sending(number)) {
-        return settings::held(c, v);
+        settings::held(c, v)
+    } else {
+        c.with_sender(
+            number,
+            c.sender(number).command(v, settings::operational(c)),
+        )
     }
-    let mut s = c.sender(number);
-    s = s.command(v, settings::operational(c));
-    c.with_sender(number, s)
 }
 
 // EPC and RXC of the endpoint that receives into a FIFO.
-fn receiver(c: Chip, number: FifoNumber, register: u8, v: u8) -> Chip
+#[tactic(auto, unfolding(crate::specs::Write::receiver_write))]
+fn receiver(c: Chip, number: FifoNumber, register: Register, v: u8) -> Chip
     ensures { result ≡ receiver_write register number v c }
 {
-    let mut s = c.receiver(number);
+    let s = c.receiver(number);
     match register {
-        0 => {
-            let e = Epc::of(v);
-            s.epc = e;
-            c.with_receiver(number, s)
-        }
-        3 => {
-            s = s.command(v, settings::operational(c));
-            c.with_receiver(number, s)
-        }
-        _ => c,
+        Register::Epc => c.with_receiver(
+            number,
+            Receiver {
+                epc: Epc::of(v),
+                ..s
+            },
+        ),
+        Register::Data | Register::Status => c,
+        Register::Command => c.with_receiver(number, s.command(v, settings::operational(c))),
     }
 }

@@ -15,8 +15,8 @@ within : (why : Refusal) (place n most : ℕ) → place < 2 ^ 64 → n ≡ lengt
 within why place n most fits count sized = omega (arith, count, sized, refusal_short 0 why place (omega arith) fits)
 
 pub slice_bounds-line-end : goal.slice_bounds-line-end
-slice_bounds-line-end g c = within c.args.why c.args.place _ _ c.ranges.place.fits c.refusal-n.ensures.count c.refusal-n.auto.out
+slice_bounds-line-end g c = within c.args.refused.why c.args.refused.place _ _ (omega arith) c.refusal-n.ensures.count c.refusal-n.auto.out
 
 pub slice_bounds-write_all-end : goal.slice_bounds-write_all-end
 slice_bounds-write_all-end g c =
-    sym (length-take-le _ _ (within c.args.why c.args.place _ _ c.ranges.place.fits c.refusal-n.ensures.count c.refusal-n.auto.out))
+    sym (length-take-le _ _ (within c.args.refused.why c.args.refused.place _ _ (omega arith) c.refusal-n.ensures.count c.refusal-n.auto.out))

@@ -5,18 +5,18 @@ use mathlib.Core.Path.{◌≡◌, refl, ◌∙◌}
 use mathlib.Core.Bool.{Bool, true, false}
 use mathlib.Core.List.{List, []}
 use lib.Dec.{eqb}
+use Rattle.std.specs.Prelude.{Option, None, Some}
 use Rattle.choice.specs.Choice.{pick}
 use Rattle.choice.proofs.ByTest.{by_test}
 use Rattle.event.specs.declared.BusEndpoint.{BusEndpoint}
 use Rattle.event.specs.declared.Event.{Event}
 use Rattle.event.specs.declared.Event.TheVariants as event
 use Rattle.receiver.specs.declared.Receiver.{Receiver}
+use Rattle.state.specs.declared.Endpoint.{Endpoint}
 use Rattle.state.specs.declared.Chip.{Chip}
 use Rattle.state.specs.State.{Model, receiver_at}
 use Rattle.settings.specs.Settings.{operational}
 use Rattle.window.specs.Window.{numbered}
-use Rattle.tokens.specs.declared.Match.{Match}
-use Rattle.tokens.specs.declared.Match.TheVariants.{Nobody, Takes}
 use Rattle.tokens.specs.Tokens.{out_mask, winner}
 use Rattle.ends.specs.Ends.{idled, ended_zero, ended_sender, ended, dropped_setup}
 use Rattle.bus.specs.Bus.{awaiting, out_at, out_by}
@@ -98,10 +98,10 @@ module _ (s : List ℕ) (m : Model) (on : operational m.chip ≡ true) where
   data_alike pid sound other = bus_alike (event.Data pid sound) s m refl on (rw on other)
 
   -- an OUT fixes an endpoint and no more
-  out_receivers : (w : Match) (c : Chip) → (out_by w c).chip.receivers ≡ c.receivers
+  out_receivers : (w : Option Endpoint) (c : Chip) → (out_by w c).chip.receivers ≡ c.receivers
   unfolding out_at awaiting
-  out_receivers Nobody c = refl
-  out_receivers (Takes e) c = by_test (λ (x : Chip). x.receivers ≡ c.receivers) (eqb e.0 0) (λ _. refl) (λ _. refl)
+  out_receivers None c = refl
+  out_receivers (Some e) c = by_test (λ (x : Chip). x.receivers ≡ c.receivers) (eqb e.0 0) (λ _. refl) (λ _. refl)
 
   pub out_alike : (a : ℕ) (e : BusEndpoint) → Alike m (next (event.Out a e) s m)
   unfolding step_of step_bytes out_step pick

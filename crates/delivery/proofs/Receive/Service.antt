@@ -6,6 +6,7 @@ use mathlib.Core.Path.{◌≡◌, refl, sym, ap, ◌∙◌}
 use mathlib.Core.Bool.{Bool, true, false, not, ◌&&◌, false≢true}
 use mathlib.Core.List.{[]}
 use lib.Dec.{eqb}
+use Rattle.std.specs.Prelude.{Ok}
 use Rattle.choice.specs.Choice.{pick}
 use Rattle.choice.proofs.ByTest.{by_test}
 use Rattle.ring.specs.Ring.{level}
@@ -79,9 +80,9 @@ module _ (m : Model) (s : Sound m) where
   unfolding seen read_of receiver_read pick
   rxs_state = receiver_same (numbered 1) (cleared (rx m)) m.chip s.typed.chip.receivers.sized
 
-  rxd_state : rx (seen 0x2D m) ≡ (take_byte (numbered 1) (rx m) m.memory).receiver
+  rxd_state : rx (seen 0x2D m) ≡ (take_byte (numbered 1) (rx m) m.memory).next
   unfolding seen read_of receiver_read pick
-  rxd_state = receiver_same (numbered 1) (take_byte (numbered 1) (rx m) m.memory).receiver m.chip s.typed.chip.receivers.sized
+  rxd_state = receiver_same (numbered 1) (take_byte (numbered 1) (rx m) m.memory).next m.chip s.typed.chip.receivers.sized
 
   rxc_state : (v : ℕ) → rx (written 0x2F v m) ≡ command (operational m.chip) v (rx m)
   unfolding written write_of receiver_write pick
@@ -164,7 +165,7 @@ module _ (m : Model) (d : Driver) (s : Sound m) (on : operational m.chip ≡ tru
   never : {A : Type 0} → w ≡ false → w ≡ true → A
   never no-wait wait = absurd {0} (false≢true (sym no-wait ∙ wait))
 
-  pub flush_served : (why : Did) → is_taken why ≡ false → w ≡ false → Served m d (flushing why (seen 0x2E m) d)
+  pub flush_served : (why : Did) → is_taken (Ok why) ≡ false → w ≡ false → Served m d (flushing why (seen 0x2E m) d)
   unfolding flushing pick
   flush_served why no-take no-wait =
       record {
@@ -174,7 +175,7 @@ module _ (m : Model) (d : Driver) (s : Sound m) (on : operational m.chip ≡ tru
         expects = rw no-wait;
       }
 
-  pub nothing_served : Ready (rx m) → w ≡ false → Served m d (record { model = seen 0x2E m; driver = d; did = did.Nothing; bytes = [] })
+  pub nothing_served : Ready (rx m) → w ≡ false → Served m d (record { model = seen 0x2E m; driver = d; did = Ok did.Nothing; bytes = [] })
   unfolding is_taken pick
   nothing_served h no-wait =
       record {

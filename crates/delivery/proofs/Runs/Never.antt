@@ -1,9 +1,7 @@
 -- A chip that answers NAK for ever: its runs show that no sentence of recovery holds of it.
 -- Assumes nothing.
 use mathlib.Core.Path.{◌≡◌, refl}
-use Rattle.receiver.specs.Receiver.{received}
 use Rattle.delivery.specs.Host.{over}
-use Rattle.delivery.specs.World.{sent}
 use Rattle.delivery.specs.Lists.{SentAgain, ReceivedAgain}
 use Rattle.delivery.proofs.Runs.Sides.{same_packets, not_sent_again, not_received_again}
 use Rattle.delivery.proofs.Runs.Nak.{naks_in, naks_out, naks}

@@ -16,7 +16,7 @@ use Rattle.delivery.specs.Standing.{Standing}
 use Rattle.delivery.proofs.Standing.Start.{start_stands}
 use Rattle.delivery.proofs.Standing.Stands.{act_stands}
 use Rattle.delivery.specs.Host.{Packet, Action}
-use Rattle.delivery.specs.World.{Pipes, World, held, start_world, act, acts}
+use Rattle.delivery.specs.World.{Pipes, World, start_world, act, acts}
 use Rattle.delivery.specs.Lists.{AllBytes, Sent}
 use Rattle.delivery.specs.Stage.{view_of, Idle, Told, before, after, Holding, Stage, idle, armed, waiting, acked, failed}
 use Rattle.delivery.proofs.Send.Driver.{held_is, held_none}

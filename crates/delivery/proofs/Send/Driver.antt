@@ -8,6 +8,7 @@ use mathlib.Core.List.{List, [], ◌∷◌, ◌++◌, append-nil}
 use lib.ListN.{length, get_or}
 use lib.Dec.{ltb}
 use borrow.Author.Tests.{ltb-false}
+use Rattle.std.specs.Prelude.{Ok, Err}
 use Rattle.choice.specs.Choice.{pick}
 use Rattle.choice.proofs.ByTest.{by_test}
 use Rattle.refusal.specs.declared.Refusal.{Refusal}
@@ -57,7 +58,7 @@ held_none w e = rw e refl
 abbrev Offers : Packet → World → Call → Type 0
 Offers p w x = Stage (called x (offers_more (if_so (is_done x.did) p) w.lists) w)
 
-refused_keeps : (p : Packet) (w : World) (why : Refusal) → Stage w → Offers p w (call w.model w.driver (did.Refused why))
+refused_keeps : (p : Packet) (w : World) (why : Refusal) → Stage w → Offers p w (call w.model w.driver (Err why))
 unfolding called is_done pick
 refused_keeps p w why x =
     stage_keeps w _ (record {
@@ -100,11 +101,11 @@ served_by P w s x = rw s.as_set_up.well x
 
 module _ (w : World) (n : Model) where
   -- the driver and the lists as they were, but for nothing more at the end of one
-  nothing_rest : Rest w (called (call n w.driver did.Nothing) (delivers_more [] w.lists) w)
+  nothing_rest : Rest w (called (call n w.driver (Ok did.Nothing)) (delivers_more [] w.lists) w)
   unfolding called
   nothing_rest = record { held = refl; sends = refl; expects = refl; offers = refl; delivered = append-nil w.lists.delivered; got = refl }
 
-  resent_rest : Rest w (called (call n w.driver did.Resent) (delivers_more [] w.lists) w)
+  resent_rest : Rest w (called (call n w.driver (Ok did.Resent)) (delivers_more [] w.lists) w)
   unfolding called
   resent_rest = record { held = refl; sends = refl; expects = refl; offers = refl; delivered = append-nil w.lists.delivered; got = refl }
 
@@ -115,18 +116,18 @@ module _ (w : World) (s : Standing w) where
   module _ (P : World → Type 0) where
     -- TX_DONE is not shown, or nothing is held
     nothing_served : (w.driver.held && (first w.model.chip).done) ≡ false
-        → P (called (call (seen 0x2A w.model) w.driver did.Nothing) (delivers_more [] w.lists) w) → P (act_send w)
+        → P (called (call (seen 0x2A w.model) w.driver (Ok did.Nothing)) (delivers_more [] w.lists) w) → P (act_send w)
     unfolding answered is_delivered pick
     nothing_served e x = served_by P w s (rw (txs_done w.model, e) x)
 
     resent_served : (w.driver.held && (first w.model.chip).done) ≡ true → (first w.model.chip).ack ≡ false
-        → P (called (call (written 0x2B (again w.driver.sends) (seen 0x2A w.model)) w.driver did.Resent) (delivers_more [] w.lists) w)
+        → P (called (call (written 0x2B (again w.driver.sends) (seen 0x2A w.model)) w.driver (Ok did.Resent)) (delivers_more [] w.lists) w)
         → P (act_send w)
     unfolding answered is_delivered pick
     resent_served e f x = served_by P w s (rw (txs_done w.model, txs_ack w.model, e, f) x)
 
     delivered_served : (w.driver.held && (first w.model.chip).done) ≡ true → (first w.model.chip).ack ≡ true
-        → P (called (call (seen 0x2A w.model) (record { held = false; sends = not w.driver.sends; expects = w.driver.expects }) did.Delivered) (delivers_more (held w) w.lists) w)
+        → P (called (call (seen 0x2A w.model) (record { held = false; sends = not w.driver.sends; expects = w.driver.expects }) (Ok did.Delivered)) (delivers_more (held w) w.lists) w)
         → P (act_send w)
     unfolding answered is_delivered pick
     delivered_served e f x = served_by P w s (rw (txs_done w.model, txs_ack w.model, e, f) x)

@@ -6,6 +6,7 @@ use mathlib.Core.Path.{◌≡◌, refl, sym, ◌∙◌}
 use mathlib.Core.Bool.{Bool, true, false, not, ◌&&◌, false≢true, and-eq-true_iff}
 use lib.Dec.{eqb, leb}
 use borrow.Author.Tests.{leb-true, eqb-true, ne_eqb, eq-eqb}
+use Rattle.std.specs.Prelude.{Option, None, Some}
 use Rattle.choice.proofs.ByTest.{by_test}
 use Rattle.event.specs.declared.BusEndpoint.{BusEndpoint}
 use Rattle.event.specs.declared.Event.{Event}
@@ -18,8 +19,6 @@ use Rattle.state.specs.declared.Chip.{Chip}
 use Rattle.state.specs.State.{sender_at, receiver_at}
 use Rattle.settings.specs.Settings.{operational}
 use Rattle.window.specs.Window.{numbered}
-use Rattle.tokens.specs.declared.Match.{Match}
-use Rattle.tokens.specs.declared.Match.TheVariants.{Nobody, Takes}
 use Rattle.tokens.specs.Tokens.{own, in_mask, out_mask, winner}
 use Rattle.step.specs.Step.{quiet}
 use Rattle.laws.specs.Place.{endpoint, Place, sends, receives, at, sending_place, receiving_place, Owner, is_owner}
@@ -87,21 +86,21 @@ module _ (p : Pipes) (c : Chip) (r : Ranges p) (s : SetUp p c) where
   receiver_takes_lem e = rw s.receives_as (epc_takes p.f.0 r.receives_high e)
 
   -- The IN token of the one pipe is taken by endpoint 1, the OUT token of the other by endpoint 2.
-  pub in_reaches : winner (in_mask p.a p.e c) ≡ Takes (endpoint 1)
+  pub in_reaches : winner (in_mask p.a p.e c) ≡ Some (endpoint 1)
   in_reaches =
       in_first p.a p.e c (own_is p.a ∙ eq-eqb p.a p.a refl) (sender_takes_lem p.e ∙ eq-eqb p.e.0 p.e.0 refl)
       (ne_eqb p.e.0 0 (omega (arith, r.sends_low)))
 
-  pub out_reaches : winner (out_mask p.a p.f c) ≡ Takes (endpoint 2)
+  pub out_reaches : winner (out_mask p.a p.f c) ≡ Some (endpoint 2)
   out_reaches =
       out_first p.a p.f c (own_is p.a ∙ eq-eqb p.a p.a refl) (receiver_takes_lem p.f ∙ eq-eqb p.f.0 p.f.0 refl)
       (ne_eqb p.f.0 0 (omega (arith, r.receives_low)))
 
   -- So it is after the end of what was awaited, when the chip looks.
-  pub in_reaches_then : winner (in_mask p.a p.e (quiet false c)) ≡ Takes (endpoint 1)
+  pub in_reaches_then : winner (in_mask p.a p.e (quiet false c)) ≡ Some (endpoint 1)
   in_reaches_then = rw (in_by_lem p.a p.e c (quiet false c) (quiet_looks false c)) in_reaches
 
-  pub out_reaches_then : winner (out_mask p.a p.f (quiet false c)) ≡ Takes (endpoint 2)
+  pub out_reaches_then : winner (out_mask p.a p.f (quiet false c)) ≡ Some (endpoint 2)
   out_reaches_then = rw (out_by_lem p.a p.f c (quiet false c) (quiet_looks false c)) out_reaches
 
 -- an endpoint that receives stands at no place that sends
@@ -119,18 +118,18 @@ module _ (a : ℕ) (e : BusEndpoint) (c : Chip) where
       away : (k : Endpoint) → at (sending_place k) (receives (numbered 1)) ≡ false
       away k = unfold sending_place in (by_test (λ (q : Place). at q (receives (numbered 1)) ≡ false) _ (λ _. refl) (λ _. refl))
 
-      go : (w : Match) → is_owner (in_owner w) (receives (numbered 1)) ≡ false
-      go Nobody = refl
-      go (Takes k) = away k
+      go : (w : Option Endpoint) → is_owner (in_owner w) (receives (numbered 1)) ≡ false
+      go None = refl
+      go (Some k) = away k
 
   pub out_not_sends : is_for (event.Out a e) c (sends (numbered 1)) ≡ false
   unfolding owner
   out_not_sends =
       by_test (λ (o : Owner). is_owner o (sends (numbered 1)) ≡ false) _ (λ _. go (winner (out_mask a e c))) (λ _. refl)
     where
-      go : (w : Match) → is_owner (out_owner w) (sends (numbered 1)) ≡ false
-      go Nobody = refl
-      go (Takes k) = receiving_away k
+      go : (w : Option Endpoint) → is_owner (out_owner w) (sends (numbered 1)) ≡ false
+      go None = refl
+      go (Some k) = receiving_away k
 
   pub setup_not_piped : (q : Place) → Piped q → is_for (event.Setup a e) c q ≡ false
   unfolding owner setup_owner

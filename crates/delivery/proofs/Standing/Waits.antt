@@ -4,6 +4,7 @@ use Prim.Native.Nat.{ℕ}
 use mathlib.Core.Path.{◌≡◌, refl, ◌∙◌}
 use mathlib.Core.Bool.{true, false}
 use mathlib.Core.List.{List}
+use Rattle.std.specs.Prelude.{Some}
 use Rattle.choice.specs.Choice.{pick}
 use Rattle.event.specs.declared.BusEndpoint.{BusEndpoint}
 use Rattle.event.specs.declared.Event.{Event}
@@ -19,7 +20,6 @@ use Rattle.state.specs.declared.Chip.{Chip}
 use Rattle.state.specs.State.{Model, sender_at, fifo_of}
 use Rattle.state.specs.Set.{with_sender}
 use Rattle.settings.specs.Settings.{operational}
-use Rattle.tokens.specs.declared.Match.TheVariants.{Takes}
 use Rattle.tokens.specs.Tokens.{in_mask, out_mask, winner}
 use Rattle.answer.specs.declared.Answer.{Answer}
 use Rattle.answer.specs.declared.Answer.TheVariants as answer
@@ -72,13 +72,13 @@ module _ (s : List ℕ) (m : Model) (on : operational m.chip ≡ true) where
   q = quiet false m.chip
 
   -- After an IN that endpoint 1 takes a handshake is awaited of it if it sent data, else nothing.
-  pub in_waits : (a : ℕ) (e : BusEndpoint) → winner (in_mask a e q) ≡ Takes (endpoint 1)
+  pub in_waits : (a : ℕ) (e : BusEndpoint) → winner (in_mask a e q) ≡ Some (endpoint 1)
       → Sent-waits (endpoint 1) (step_of (event.In a e) s m.chip m.memory).answer (next (event.In a e) s m).chip.pending.wait
   unfolding step_of in_step pick in_at
   in_waits a e t = rw (on, t) (sender_waits q (quiet_wait false m.chip) (endpoint 1))
 
   -- After an OUT that endpoint 2 takes its data is awaited.
-  pub out_waits : (a : ℕ) (e : BusEndpoint) → winner (out_mask a e q) ≡ Takes (endpoint 2)
+  pub out_waits : (a : ℕ) (e : BusEndpoint) → winner (out_mask a e q) ≡ Some (endpoint 2)
       → (next (event.Out a e) s m).chip.pending.wait ≡ Data (endpoint 2)
   unfolding step_of out_step pick out_at awaiting
   out_waits a e t = rw (on, t)

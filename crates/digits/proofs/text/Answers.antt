@@ -10,17 +10,16 @@ use Rattle.digits.proofs.Places.{first_byte, same_place}
 use Rattle.digits.proofs.text.Goals as goal
 
 pub loop-k-init : goal.loop-k-init
-loop-k-init c = (omega arith, refl, rw (add-zero, c.place-from.ensures) (same_place _ _ _))
+loop-k-init c = (refl, rw (add-zero, c.place-from.ensures) (same_place _ _ _))
 
 pub loop-k-preserved : goal.loop-k-preserved
 loop-k-preserved c = (
-  omega arith,
-  c.put.auto.out ∙ c.loop-k.invariant.1,
-  rw c.put.ensures (sym (first_byte _ _ _ _ c.loop-k-test.true) ∙ c.loop-k.invariant.2),
+  c.put.auto.out ∙ c.loop-k.invariant.0,
+  rw c.put.ensures (sym (first_byte _ _ _ _ c.loop-k-test.true) ∙ c.loop-k.invariant.1),
 )
 
 pub returns : goal.returns
 unfolding overlay
 returns c =
     let e : c.loop-k.k ≡ length c.args.s.now = omega arith in
-    rw (e, drop-length) at c.loop-k.invariant.2
+    rw (e, drop-length) at c.loop-k.invariant.1

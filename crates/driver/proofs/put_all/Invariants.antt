@@ -2,13 +2,9 @@
 -- Assumes nothing.
 use mathlib.Core.Path.{◌≡◌}
 use Rattle.driver.specs.Registers.{whole, written_all}
-use Prim.Native.Nat.{◌-◌, ◌≤◌}
-use lib.ListN.{length, drop}
+use lib.ListN.{drop}
 use Rattle.driver.proofs.put_all.Given as goal
 
-abbrev pub invariant-loop-i : goal.invariant-loop-i
-invariant-loop-i l =
-    (l.i ≤ length l.s) × (written_all 0x29 (drop l.i l.s) (whole l.c l.memory) ≡ written_all 0x29 l.s (whole l.initial.c l.initial.memory))
-
-abbrev pub decreases-loop-i : goal.decreases-loop-i
-decreases-loop-i l = length l.s - l.i
+abbrev pub invariant-loop-b : goal.invariant-loop-b
+invariant-loop-b l =
+    written_all 0x29 (drop l.b-index l.s) (whole l.c l.memory) ≡ written_all 0x29 l.s (whole l.initial.c l.initial.memory)

@@ -3,17 +3,16 @@
 use Prim.Native.Nat.{ℕ}
 use mathlib.Core.Path.{◌≡◌, refl}
 use mathlib.Core.Bool.{Bool, true, false}
+use Rattle.std.specs.Prelude.{Option, None, Some}
 use Rattle.state.specs.declared.Endpoint.{Endpoint}
-use Rattle.tokens.specs.declared.Match.{Match}
-use Rattle.tokens.specs.declared.Match.TheVariants.{Nobody, Takes}
 use Rattle.formed.specs.Formed.{sends, receives}
 use Rattle.laws.specs.Place.{endpoint}
 use Rattle.laws.proofs.Frame.Lowest.{lowest_of}
 
 -- what is said of whoever takes a token, if anybody does
-abbrev pub whoever : (Endpoint → Bool) → Match → Bool
-whoever p Nobody = true
-whoever p (Takes e) = p e
+abbrev pub whoever : (Endpoint → Bool) → Option Endpoint → Bool
+whoever p None = true
+whoever p (Some e) = p e
 
 -- of endpoint 0 and three others, the lowest that matches is one of them
 lowest : (p : Endpoint → Bool) (i j k : ℕ) → p (endpoint 0) ≡ true → p (endpoint i) ≡ true → p (endpoint j) ≡ true → p (endpoint k) ≡ true

@@ -3,6 +3,7 @@
 use Prim.Native.Nat.{ℕ}
 use mathlib.Core.Path.{◌≡◌, refl}
 use mathlib.Core.Bool.{true}
+use Rattle.std.specs.Prelude.{Option, None, Some}
 use Rattle.choice.proofs.ByTest.{by_test}
 use Rattle.window.specs.declared.FifoNumber.{FifoNumber}
 use Rattle.window.specs.Window.{fifo0, index_of, numbered}
@@ -17,8 +18,6 @@ use Rattle.state.specs.declared.Wait.TheVariants as wait
 use Rattle.state.specs.declared.Chip.{Chip}
 use Rattle.state.specs.State.{sender_at, fifo_of}
 use Rattle.state.specs.Set.{with_control, with_sender}
-use Rattle.tokens.specs.declared.Match.{Match}
-use Rattle.tokens.specs.declared.Match.TheVariants.{Nobody, Takes}
 use Rattle.tokens.specs.Tokens.{zero_takes, sender_takes, receiver_takes, in_mask, out_mask, winner}
 use Rattle.answer.specs.declared.Out.{Out}
 use Rattle.bus.specs.Bus.{awaiting, marked_in, in_zero, in_sender, in_at, in_by, in_token, out_at, out_by, out_token, setup_token}
@@ -86,9 +85,9 @@ module _ (c : Chip) (t : TypedChip c) (f : Facts true c) where
   unfolding in_at
   in_at_facts e h = by_test Gives _ (λ _. in_zero_facts) (λ _. in_sender_facts e h)
 
-  in_by_facts : (w : Match) → whoever sends w ≡ true → Gives (in_by w c)
-  in_by_facts Nobody h = f
-  in_by_facts (Takes e) h = in_at_facts e h
+  in_by_facts : (w : Option Endpoint) → whoever sends w ≡ true → Gives (in_by w c)
+  in_by_facts None h = f
+  in_by_facts (Some e) h = in_at_facts e h
 
   -- After an IN token.
   pub in_facts : (address : ℕ) (e : BusEndpoint) → Gives (in_token address e c)
@@ -104,9 +103,9 @@ module _ (c : Chip) (f : Facts true c) where
       (λ _. data_facts _ (with_control_well true c f _ (kept-bus.out_token_keeps c.control f.control)) e h)
       (λ _. data_facts c f e h)
 
-  out_by_facts : (w : Match) → whoever receives w ≡ true → Gives (out_by w c)
-  out_by_facts Nobody h = f
-  out_by_facts (Takes e) h = out_at_facts e h
+  out_by_facts : (w : Option Endpoint) → whoever receives w ≡ true → Gives (out_by w c)
+  out_by_facts None h = f
+  out_by_facts (Some e) h = out_at_facts e h
 
   -- After an OUT token.
   pub out_facts : (address : ℕ) (e : BusEndpoint) → Gives (out_token address e c)

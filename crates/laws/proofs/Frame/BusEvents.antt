@@ -6,6 +6,7 @@ use mathlib.Core.Bool.{Bool}
 use mathlib.Core.List.{List}
 use lib.ListN.{length}
 use lib.Dec.{eqb}
+use Rattle.std.specs.Prelude.{Option, None, Some}
 use Rattle.choice.specs.Choice.{pick}
 use Rattle.choice.proofs.ByTest.{by_test}
 use Rattle.window.specs.declared.FifoNumber.{FifoNumber}
@@ -29,8 +30,6 @@ use Rattle.state.specs.declared.Pending.{Pending}
 use Rattle.state.specs.declared.Chip.{Chip}
 use Rattle.state.specs.State.{sender_at, receiver_at, fifo_of, nothing, zero_place, awaiting_only}
 use Rattle.state.specs.Set.{with_control, with_sender, with_receiver, with_events, with_pending}
-use Rattle.tokens.specs.declared.Match.{Match}
-use Rattle.tokens.specs.declared.Match.TheVariants.{Nobody, Takes}
 use Rattle.tokens.specs.Tokens.{zero_takes}
 use Rattle.answer.specs.declared.Out.{Out}
 use Rattle.answer.specs.Answer.{silent}
@@ -98,21 +97,21 @@ module _ (P : Chip → Type 0) (c : Chip) where
         (h.receiver k own x same _ _ over)
 
   -- An IN changes the endpoint that takes it.
-  pub in_by_lem : (w : Match) → Changes P (in_owner w) (Left (in_owner w) c) c → After (in_by w c)
+  pub in_by_lem : (w : Option Endpoint) → Changes P (in_owner w) (Left (in_owner w) c) c → After (in_by w c)
   unfolding in_at in_zero in_sender
-  in_by_lem Nobody h = h.none refl
-  in_by_lem (Takes e) h =
+  in_by_lem None h = h.none refl
+  in_by_lem (Some e) h =
       let s : Sender = sender_at (fifo_of e) c in
       let z : Control = c.control in
       by_test After (eqb e.0 0)
-      (λ t. answered_zero_lem (in_owner (Takes e)) h (zero-bus.answer_in z) z (zero-bus.sent z) (ap one (sending_is_zero e t)))
-      (λ t. answered_sender_lem (in_owner (Takes e)) h (sender.answer_in s) e s (sender.sent s) (sent_epc s) refl (ap one (sending_is_sends e t)))
+      (λ t. answered_zero_lem (in_owner (Some e)) h (zero-bus.answer_in z) z (zero-bus.sent z) (ap one (sending_is_zero e t)))
+      (λ t. answered_sender_lem (in_owner (Some e)) h (sender.answer_in s) e s (sender.sent s) (sent_epc s) refl (ap one (sending_is_sends e t)))
 
   -- So does an OUT, whose data is awaited then.
-  pub out_by_lem : (w : Match) → Changes P (out_owner w) (Left (out_owner w) c) c → After (out_by w c)
+  pub out_by_lem : (w : Option Endpoint) → Changes P (out_owner w) (Left (out_owner w) c) c → After (out_by w c)
   unfolding out_at awaiting
-  out_by_lem Nobody h = h.none refl
-  out_by_lem (Takes e) h =
+  out_by_lem None h = h.none refl
+  out_by_lem (Some e) h =
       by_test P (eqb e.0 0)
       (λ t. h.control (ap one (receiving_is_zero e t)) _ _ _ (now (wait.Data e) refl))
       (λ _. h.waits _ (now (wait.Data e) refl))

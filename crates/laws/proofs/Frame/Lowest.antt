@@ -6,28 +6,28 @@ use mathlib.Core.Path.{◌≡◌, refl, ap, ◌∙◌}
 use mathlib.Core.Bool.{Bool, true, false, ◌&&◌, ◌||◌, not}
 use lib.Dec.{eqb}
 use lib.Count.{count_trailing_zeros}
+use Rattle.std.specs.Prelude.{Option, None, Some}
 use Rattle.choice.specs.Choice.{pick}
 use Rattle.window.specs.Window.{index_of, numbered}
 use Rattle.event.specs.declared.BusEndpoint.{BusEndpoint}
 use Rattle.event.specs.declared.Event.TheVariants as event
 use Rattle.epc.specs.Bits.{bit_of}
 use Rattle.epc.specs.Epc.{takes}
+use Rattle.state.specs.declared.Endpoint.{Endpoint}
 use Rattle.state.specs.declared.Chip.{Chip}
 use Rattle.state.specs.State.{sender_at, receiver_at}
 use Rattle.settings.specs.Settings.{operational}
-use Rattle.tokens.specs.declared.Match.{Match}
-use Rattle.tokens.specs.declared.Match.TheVariants.{Nobody, Takes}
 use Rattle.tokens.specs.Tokens.{own, zero_takes, sender_takes, receiver_takes, in_mask, out_mask, winner}
 use Rattle.laws.specs.Place.{endpoint, Place, sends, receives, sending_place, receiving_place, Owner, nobody, is_owner}
 use Rattle.laws.specs.Owner.{in_owner, out_owner, owner, is_for}
 
 -- "the lowest-numbered of all that match takes the token": of endpoint 0 and three others
-abbrev pub lowest_of : ℕ → ℕ → ℕ → Bool → Bool → Bool → Bool → Match
-lowest_of i j k true x y z = Takes (endpoint 0)
-lowest_of i j k false true y z = Takes (endpoint i)
-lowest_of i j k false false true z = Takes (endpoint j)
-lowest_of i j k false false false true = Takes (endpoint k)
-lowest_of i j k false false false false = Nobody
+abbrev pub lowest_of : ℕ → ℕ → ℕ → Bool → Bool → Bool → Bool → Option Endpoint
+lowest_of i j k true x y z = Some (endpoint 0)
+lowest_of i j k false true y z = Some (endpoint i)
+lowest_of i j k false false true z = Some (endpoint j)
+lowest_of i j k false false false true = Some (endpoint k)
+lowest_of i j k false false false false = None
 
 -- bit 0 is endpoint 0's; bits 1, 3, 5 are the senders', bits 2, 4, 6 the receivers'
 bits : (o x y z : Bool)
@@ -98,13 +98,13 @@ module _ (a : ℕ) (e : BusEndpoint) (c : Chip) where
 
   -- The endpoint of TXFIFO1 takes every IN for its bus endpoint, but for bus endpoint 0, at the chip's own address, whatever the others are.
   pub in_first : own a c ≡ true → takes (sender_at (numbered 1) c).epc e ≡ true → eqb e.0 0 ≡ false
-      → winner (in_mask a e c) ≡ Takes (endpoint 1)
+      → winner (in_mask a e c) ≡ Some (endpoint 1)
   unfolding zero_takes sender_takes
   in_first w t n = in_lowest ∙ simp (n, w, t)
 
   -- The endpoint of RXFIFO1 takes every OUT for its bus endpoint, but for bus endpoint 0, at the chip's own address, whatever the others are.
   pub out_first : own a c ≡ true → takes (receiver_at (numbered 1) c).epc e ≡ true → eqb e.0 0 ≡ false
-      → winner (out_mask a e c) ≡ Takes (endpoint 2)
+      → winner (out_mask a e c) ≡ Some (endpoint 2)
   unfolding zero_takes receiver_takes
   out_first w t n = out_lowest ∙ simp (n, w, t)
 

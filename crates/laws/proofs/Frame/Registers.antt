@@ -18,6 +18,8 @@ use Rattle.state.specs.declared.Pending.{Pending}
 use Rattle.state.specs.declared.Chip.{Chip}
 use Rattle.state.specs.State.{sender_at, zero_place}
 use Rattle.state.specs.Set.{with_control, with_masks, with_pending}
+use Rattle.slot.specs.declared.Register.{Register}
+use Rattle.slot.specs.declared.Register.TheVariants as register
 use Rattle.slot.specs.Slot.{slot_of}
 use Rattle.settings.specs.Settings.{awaits, awaits_in, far_write, nfsr_write}
 use Rattle.reads.specs.Read.{read_of}
@@ -98,13 +100,18 @@ module _ (p : Place) (c : Chip) (a : ℕ) (other : is_owner (register_owner a) p
           by_test Kept _ (λ _.
           by_test Kept _ (λ _. refl) (λ _. kept_bytes zero p m _ z (put0_kept c.control.fifo m v))) (λ _. refl)
 
-      endpoint_bytes_lem : at (slot_place a) p ≡ false → Kept (endpoint_bytes a v c m)
+      sender_bytes_lem : (r : Register) (k : FifoNumber) → at (sends k) p ≡ false → Kept (sender_bytes r k v c m)
       unfolding sender_bytes
+      sender_bytes_lem register.Epc k s = refl
+      sender_bytes_lem register.Data k s = kept_bytes (sends k) p m _ s (put_tx_kept k (sender_at k c).fifo m v)
+      sender_bytes_lem register.Status k s = refl
+      sender_bytes_lem register.Command k s = refl
+
+      endpoint_bytes_lem : at (slot_place a) p ≡ false → Kept (endpoint_bytes a v c m)
       endpoint_bytes_lem s =
-          let k : FifoNumber = (slot_of a).number in
-          by_test Kept (slot_of a).sends (λ e.
-          by_test Kept _ (λ _.
-          kept_bytes (sends k) p m _ (rw (slot_sends a e) at s) (put_tx_kept k (sender_at k c).fifo m v)) (λ _. refl)) (λ _. refl)
+          by_test Kept (slot_of a).sends
+          (λ e. sender_bytes_lem (slot_of a).register (slot_of a).number (rw (slot_sends a e) at s))
+          (λ _. refl)
 
       pub write_bytes : Kept (bytes_of a v c m)
       unfolding bytes_of

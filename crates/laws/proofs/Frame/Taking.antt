@@ -5,6 +5,7 @@ use mathlib.Core.Path.{◌≡◌, refl, ◌∙◌}
 use mathlib.Core.Bool.{Bool, false}
 use mathlib.Core.List.{List}
 use lib.Dec.{eqb}
+use Rattle.std.specs.Prelude.{Option}
 use Rattle.choice.proofs.ByTest.{by_test}
 use Rattle.window.specs.declared.FifoNumber.{FifoNumber}
 use Rattle.fifo0.specs.Control.{spend0}
@@ -12,6 +13,7 @@ use Rattle.contents.proofs.Control.{fill0_kept}
 use Rattle.contents.proofs.Receive.{fill_rx_kept}
 use Rattle.event.specs.declared.BusEndpoint.{BusEndpoint}
 use Rattle.receiver.specs.Receiver as receiver
+use Rattle.state.specs.declared.Endpoint.{Endpoint}
 use Rattle.state.specs.declared.Wait.{Wait}
 use Rattle.state.specs.declared.Wait.TheVariants.{Nothing, Handshake, Data, Setup}
 use Rattle.state.specs.declared.Events.{Events}
@@ -19,7 +21,6 @@ use Rattle.state.specs.declared.Pending.{Pending}
 use Rattle.state.specs.declared.Chip.{Chip}
 use Rattle.state.specs.State.{receiver_at, fifo_of}
 use Rattle.state.specs.Set.{with_control, with_sender, with_receiver, with_events, with_pending}
-use Rattle.tokens.specs.declared.Match.{Match}
 use Rattle.tokens.specs.Tokens.{zero_takes}
 use Rattle.bus.specs.Bus.{in_by, out_by, setup_token}
 use Rattle.data.specs.Data.{data_zero_bytes, data_receiver_bytes, data_setup_bytes, data_at_bytes, data_in, data_in_bytes}
@@ -57,10 +58,10 @@ module _ (p : Place) (c : Chip) (free : awaited p c ≡ false) (o : Owner) (othe
           free_by p c r (state_parts p n r refl refl refl ∙ same) free (ok h l)
 
 module _ (p : Place) (c : Chip) (free : awaited p c ≡ false) where
-  pub in_stays : (w : Match) → is_owner (in_owner w) p ≡ false → Stays p c (in_by w c).chip
+  pub in_stays : (w : Option Endpoint) → is_owner (in_owner w) p ≡ false → Stays p c (in_by w c).chip
   in_stays w other = in_by_lem (Stays p c) c w (changes p c free (in_owner w) other _ (left_free p c free (in_owner w) other))
 
-  pub out_stays : (w : Match) → is_owner (out_owner w) p ≡ false → Stays p c (out_by w c).chip
+  pub out_stays : (w : Option Endpoint) → is_owner (out_owner w) p ≡ false → Stays p c (out_by w c).chip
   out_stays w other = out_by_lem (Stays p c) c w (changes p c free (out_owner w) other _ (left_free p c free (out_owner w) other))
 
   pub setup_stays : (a : ℕ) (e : BusEndpoint) → is_owner (setup_owner (zero_takes a e c)) p ≡ false → Stays p c (setup_token a e c).chip

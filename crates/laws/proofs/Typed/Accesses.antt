@@ -18,6 +18,8 @@ use Rattle.control.specs.Registers as control-registers
 use Rattle.state.specs.declared.Chip.{Chip}
 use Rattle.state.specs.State.{sender_at, receiver_at, reset_chip, zero_place}
 use Rattle.state.specs.Set.{with_control, with_sender, with_receiver}
+use Rattle.slot.specs.declared.Register.{Register}
+use Rattle.slot.specs.declared.Register.TheVariants.{Epc, Data, Status, Command}
 use Rattle.slot.specs.Slot.{slot_of, sending}
 use Rattle.settings.specs.Settings.{operational, awaits, held_byte, far_write, nfsr_write, mask_write}
 use Rattle.reads.specs.declared.ReadOut.{ReadOut}
@@ -44,10 +46,10 @@ pub record Reads (P : Chip → Type 0) (a : ℕ) (c : Chip) (m : List ℕ) : Typ
   pub rxev : P (rxev_read c).chip
   pub nakev : P (nakev_read c).chip
   pub txs0 : OfZero a → P (with_control (control-registers.tx_cleared c.control) c)
-  pub rxd0 : OfZero a → P (with_control (control-registers.take_data c.control m).control c)
+  pub rxd0 : OfZero a → P (with_control (control-registers.take_data c.control m).next c)
   pub rxs0 : OfZero a → P (with_control (control-registers.rx_cleared c.control) c)
   pub txs : OfSlot a true → P (with_sender (number a) (sender.cleared (sender_at (number a) c)) c)
-  pub rxd : OfSlot a false → P (with_receiver (number a) (receiver.take_byte (number a) (receiver_at (number a) c) m).receiver c)
+  pub rxd : OfSlot a false → P (with_receiver (number a) (receiver.take_byte (number a) (receiver_at (number a) c) m).next c)
   pub rxs : OfSlot a false → P (with_receiver (number a) (receiver.cleared (receiver_at (number a) c)) c)
 
 module _ (P : Chip → Type 0) (a : ℕ) (c : Chip) (m : List ℕ) (h : Reads P a c m) where
@@ -64,26 +66,25 @@ module _ (P : Chip → Type 0) (a : ℕ) (c : Chip) (m : List ℕ) (h : Reads P 
       by_test Read _ (λ _. h.rxs0 own) (λ _.
       by_test Read _ (λ _. h.none) (λ _. h.none))))))
 
-  sender_read_lem : OfSlot a true → Read (sender_read (slot_of a).register (number a) c)
+  sender_read_lem : (register : Register) → OfSlot a true → Read (sender_read register (number a) c)
   unfolding sender_read
-  sender_read_lem own =
-      by_test Read _ (λ _. h.none) (λ _.
-      by_test Read _ (λ _. h.txs own) (λ _.
-      by_test Read _ (λ _. h.none) (λ _. h.none)))
+  sender_read_lem Epc own = h.none
+  sender_read_lem Data own = h.none
+  sender_read_lem Status own = h.txs own
+  sender_read_lem Command own = h.none
 
-  receiver_read_lem : OfSlot a false → Read (receiver_read (slot_of a).register (number a) c m)
+  receiver_read_lem : (register : Register) → OfSlot a false → Read (receiver_read register (number a) c m)
   unfolding receiver_read
-  receiver_read_lem own =
-      by_test Read _ (λ _. h.none) (λ _.
-      by_test Read _ (λ _. h.rxd own) (λ _.
-      by_test Read _ (λ _. h.rxs own) (λ _.
-      by_test Read _ (λ _. h.none) (λ _. h.none))))
+  receiver_read_lem Epc own = h.none
+  receiver_read_lem Data own = h.rxd own
+  receiver_read_lem Status own = h.rxs own
+  receiver_read_lem Command own = h.none
 
   endpoint_read_lem : (leb 0x20 a && leb a 0x27) ≡ false → (leb 0x28 a && leb a 0x3F) ≡ true → Read (endpoint_read a c m)
   endpoint_read_lem e f =
       by_test Read (slot_of a).sends
-      (λ t. sender_read_lem (record { above = e; inside = f; way = t }))
-      (λ t. receiver_read_lem (record { above = e; inside = f; way = t }))
+      (λ t. sender_read_lem (slot_of a).register (record { above = e; inside = f; way = t }))
+      (λ t. receiver_read_lem (slot_of a).register (record { above = e; inside = f; way = t }))
 
   -- Every read.
   pub read_by : Read (read_of a c m)
@@ -139,22 +140,25 @@ module _ (P : Chip → Type 0) (a v : ℕ) (c : Chip) (h : Writes P a v c) where
       by_test P _ (λ _. by_test P _ (λ t. h.held0 own t) (λ _. h.txc0 own)) (λ _.
       by_test P _ (λ _. receive_command_lem own) (λ _. h.none))))
 
-  sender_write_lem : OfSlot a true → P (sender_write (slot_of a).register (number a) v c)
+  sender_write_lem : (register : Register) → OfSlot a true → P (sender_write register (number a) v c)
   unfolding sender_write sender_command
-  sender_write_lem own =
-      by_test P _ (λ _. h.epc_tx own) (λ _.
-      by_test P _ (λ _. h.txd own) (λ _.
-      by_test P _ (λ _. by_test P _ (λ t. h.held own t) (λ _. h.txc own)) (λ _. h.none)))
+  sender_write_lem Epc own = h.epc_tx own
+  sender_write_lem Data own = h.txd own
+  sender_write_lem Status own = h.none
+  sender_write_lem Command own = by_test P _ (λ t. h.held own t) (λ _. h.txc own)
 
-  receiver_write_lem : OfSlot a false → P (receiver_write (slot_of a).register (number a) v c)
+  receiver_write_lem : (register : Register) → OfSlot a false → P (receiver_write register (number a) v c)
   unfolding receiver_write
-  receiver_write_lem own = by_test P _ (λ _. h.epc_rx own) (λ _. by_test P _ (λ _. h.rxc own) (λ _. h.none))
+  receiver_write_lem Epc own = h.epc_rx own
+  receiver_write_lem Data own = h.none
+  receiver_write_lem Status own = h.none
+  receiver_write_lem Command own = h.rxc own
 
   endpoint_write_lem : (leb 0x20 a && leb a 0x27) ≡ false → (leb 0x28 a && leb a 0x3F) ≡ true → P (endpoint_write a v c)
   endpoint_write_lem e f =
       by_test P (slot_of a).sends
-      (λ t. sender_write_lem (record { above = e; inside = f; way = t }))
-      (λ t. receiver_write_lem (record { above = e; inside = f; way = t }))
+      (λ t. sender_write_lem (slot_of a).register (record { above = e; inside = f; way = t }))
+      (λ t. receiver_write_lem (slot_of a).register (record { above = e; inside = f; way = t }))
 
   -- Every write.
   pub write_by : P (write_of a v c)

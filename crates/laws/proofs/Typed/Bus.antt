@@ -3,6 +3,7 @@
 use Prim.Native.Nat.{ℕ}
 use native.Mathlib.Omega.{arith}
 use mathlib.Core.Bool.{Bool, true}
+use Rattle.std.specs.Prelude.{Option}
 use Rattle.choice.proofs.ByTest.{by_test}
 use Rattle.window.specs.declared.FifoNumber.{FifoNumber}
 use Rattle.window.specs.Window.{fifo0, index_of}
@@ -19,7 +20,6 @@ use Rattle.state.specs.declared.Wait.TheVariants as wait
 use Rattle.state.specs.declared.Chip.{Chip}
 use Rattle.state.specs.State.{sender_at, nothing, fifo_of}
 use Rattle.state.specs.Set.{with_control, with_sender}
-use Rattle.tokens.specs.declared.Match.{Match}
 use Rattle.tokens.specs.Tokens.{winner}
 use Rattle.answer.specs.declared.Out.{Out}
 use Rattle.ends.specs.Ends.{idled, done_flush, done_byte, sender_byte, ended_zero, ended_sender, ended, dropped_setup, dropped}
@@ -126,7 +126,7 @@ module _ (c : Chip) (t : TypedChip c) where
   -- So does an IN token.
   pub in_typed : (address : ℕ) (e : BusEndpoint) → TypedChip (in_token address e c).chip
   unfolding winner
-  in_typed address e = by_test (λ (w : Match). Gives (in_by w c)) _ (λ _. t) (λ _. in_at_typed _ (omega arith))
+  in_typed address e = by_test (λ (w : Option Endpoint). Gives (in_by w c)) _ (λ _. t) (λ _. in_at_typed _ (omega arith))
 
   out_at_typed : (e : Endpoint) → Byte e.0 → TypedChip (out_at e c)
   unfolding out_at
@@ -136,7 +136,7 @@ module _ (c : Chip) (t : TypedChip c) where
   -- So does an OUT token.
   pub out_typed : (address : ℕ) (e : BusEndpoint) → TypedChip (out_token address e c).chip
   unfolding winner
-  out_typed address e = by_test (λ (w : Match). Gives (out_by w c)) _ (λ _. t) (λ _. out_at_typed _ (omega arith))
+  out_typed address e = by_test (λ (w : Option Endpoint). Gives (out_by w c)) _ (λ _. t) (λ _. out_at_typed _ (omega arith))
 
   -- So does a SETUP token.
   pub setup_typed : (address : ℕ) (e : BusEndpoint) → TypedChip (setup_token address e c).chip

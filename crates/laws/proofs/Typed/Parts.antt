@@ -8,14 +8,13 @@ use Rattle.choice.proofs.ByTest.{by_test}
 use Rattle.window.specs.declared.FifoNumber.{FifoNumber}
 use Rattle.window.specs.declared.Kind.TheVariants.{Control, Receive}
 use Rattle.window.specs.Window.{fifo0, size0, rx_size, start_of}
+use Rattle.ring.specs.declared.Taken.{Taken}
 use Rattle.ring.specs.Ring.{place}
 use Rattle.txfifo.specs.declared.TxFifo.{TxFifo}
 use Rattle.txfifo.specs.Transmit.{put_tx, refill_tx}
 use Rattle.rxfifo.specs.declared.RxFifo.{RxFifo}
-use Rattle.rxfifo.specs.declared.TakenRx.{TakenRx}
 use Rattle.rxfifo.specs.Receive.{take_rx, fill_rx}
 use Rattle.fifo0.specs.declared.Fifo0.{Fifo0}
-use Rattle.fifo0.specs.declared.Taken0.{Taken0}
 use Rattle.fifo0.specs.Control.{put0, take0, fill0}
 use Rattle.sender.specs.declared.Sender.{Sender}
 use Rattle.sender.specs.Sender as sender
@@ -65,10 +64,10 @@ module _ (s : Receiver) (t : TypedReceiver s) where
   pub rx_command_typed : (operational : Bool) (v : ℕ) → TypedReceiver (receiver.command operational v s)
   rx_command_typed operational v = let m : TypedReceiver (receiver.flushed v s) = flushed_typed v in omega arith
 
-  pub rx_take_typed : (n : FifoNumber) (m : List ℕ) → Bytes m → TypedReceiver (receiver.take_byte n s m).receiver
+  pub rx_take_typed : (n : FifoNumber) (m : List ℕ) → Bytes m → TypedReceiver (receiver.take_byte n s m).next
   unfolding take_rx
   rx_take_typed n m b =
-      by_test (λ (r : TakenRx). TypedRx r.fifo s.epc s.middle) _ (λ _. t) (λ _.
+      by_test (λ (r : Taken RxFifo). TypedRx r.next s.epc s.middle) _ (λ _. t) (λ _.
       omega (arith, b (place (start_of Receive n) rx_size s.fifo.read)))
 
   fill_typed : (bytes : List ℕ) → TypedRx (fill_rx s.fifo bytes) s.epc s.middle
@@ -106,10 +105,10 @@ module _ (f : Fifo0) (t : Typed0 f) where
   unfolding put0
   put0_typed = by_test Typed0 _ (λ _. t) (λ _. omega arith)
 
-  pub take0_typed : (m : List ℕ) → Bytes m → Typed0 (take0 f m).fifo
+  pub take0_typed : (m : List ℕ) → Bytes m → Typed0 (take0 f m).next
   unfolding take0
   take0_typed m b =
-      by_test (λ (r : Taken0). Typed0 r.fifo) _ (λ _. t) (λ _. omega (arith, b (place (start_of Control fifo0) size0 f.read)))
+      by_test (λ (r : Taken Fifo0). Typed0 r.next) _ (λ _. t) (λ _. omega (arith, b (place (start_of Control fifo0) size0 f.read)))
 
   pub fill0_typed : (s : List ℕ) → Typed0 (fill0 f s)
   unfolding fill0

@@ -13,6 +13,8 @@ use Rattle.state.specs.declared.Chip.{Chip}
 use Rattle.state.specs.State.{sender_at, receiver_at, nothing}
 use Rattle.state.specs.Set.{with_control, with_nfsr}
 use Rattle.reads.specs.Read.{read_of}
+use Rattle.slot.specs.declared.Register.{Register}
+use Rattle.slot.specs.declared.Register.TheVariants.{Epc, Data, Status, Command}
 use Rattle.slot.specs.Slot.{slot_of}
 use Rattle.settings.specs.Settings.{operational, held_byte, stop_sender, stop_receiver, stop_zero, stop, nfsr_write, mask_write}
 use Rattle.writes.specs.Write.{control_bytes, sender_bytes, write_of, bytes_of}
@@ -125,11 +127,13 @@ module _ (v : ℕ) (small : Byte v) (c : Chip) (m : List ℕ) (h : TypedMemory m
       by_test TypedMemory _ (λ _. h) (λ _.
       by_test TypedMemory _ (λ _. h) (λ _. store_typed (start_of Control fifo0) size0 c.control.fifo.write v m small h))) (λ _. h)
 
-  sender_bytes_typed : (register : ℕ) (n : FifoNumber) → TypedMemory (sender_bytes register n v c m)
+  sender_bytes_typed : (register : Register) (n : FifoNumber) → TypedMemory (sender_bytes register n v c m)
   unfolding sender_bytes
-  sender_bytes_typed register n =
-      by_test TypedMemory _ (λ _.
-      by_test TypedMemory _ (λ _. h) (λ _. store_typed (start_of Transmit n) tx_size (sender_at n c).fifo.write v m small h)) (λ _. h)
+  sender_bytes_typed Epc n = h
+  sender_bytes_typed Data n =
+      by_test TypedMemory _ (λ _. h) (λ _. store_typed (start_of Transmit n) tx_size (sender_at n c).fifo.write v m small h)
+  sender_bytes_typed Status n = h
+  sender_bytes_typed Command n = h
 
   every_bytes_typed : (a : ℕ) → TypedMemory (bytes_of a v c m)
   unfolding bytes_of

@@ -4,21 +4,6 @@ use Rattle.lines.specs.Line.{answer_text}
 use Rattle.lines.proofs.Joined.{placed}
 use Rattle.lines.proofs.answered.Goals as goal
 
--- LOST slice-aggregate-word : tie.Need-slice-aggregate-word
--- LOST slice-aggregate-word c = search rules
-
--- LOST slice-aggregate-word-2 : tie.Need-slice-aggregate-word-2
--- LOST slice-aggregate-word-2 c = search rules
-
--- LOST slice-aggregate-word-3 : tie.Need-slice-aggregate-word-3
--- LOST slice-aggregate-word-3 c = search rules
-
--- LOST slice-aggregate-word-4 : tie.Need-slice-aggregate-word-4
--- LOST slice-aggregate-word-4 c = search rules
-
--- LOST slice-aggregate-word-5 : tie.Need-slice-aggregate-word-5
--- LOST slice-aggregate-word-5 c = search rules
-
 pub returns-in-Silence : goal.returns-in-Silence
 unfolding answer_text
 returns-in-Silence c =

@@ -8,14 +8,8 @@ use lib.ListN.{length}
 use Rattle.refusal.specs.Refusal.{number_of}
 use Rattle.lines.specs.Line.{refusal_text}
 use Rattle.lines.proofs.Joined.{and_then}
-use Rattle.lines.proofs.Lengths.{refusal_length, one_digit, number_small}
+use Rattle.lines.proofs.Lengths.{refusal_length, one_digit}
 use Rattle.lines.proofs.refusal.Goals as goal
-
--- LOST slice-aggregate-text-2 : tie.Need-slice-aggregate-text-2
--- LOST slice-aggregate-text-2 c = search rules
-
-pub overflow_add-k : goal.overflow_add-k
-overflow_add-k c = omega (arith, number_small c.args.r, c.number-k.ensures)
 
 pub returns : goal.returns
 unfolding refusal_text
@@ -30,7 +24,7 @@ returns c =
           (rw add-zero at
           (and_then _ 0 _ _ _ _ c.decimal-n.ensures.bytes
           (and_then _ _ _ _ _ _ c.text.ensures
-          (and_then _ _ _ _ _ _ (rw c.number-k.ensures at c.text-2.ensures)
+          (and_then _ _ _ _ _ _ (rw c.number.ensures at c.text-2.ensures)
           (and_then _ _ _ _ _ _ c.decimal-p.ensures.bytes c.put.ensures
           (omega (arith, c.decimal-p.ensures.width))) (omega arith))
           (omega arith))

@@ -6,9 +6,6 @@ use Rattle.lines.specs.Line.{value_text}
 use Rattle.lines.proofs.Joined.{and_then}
 use Rattle.lines.proofs.value.Goals as goal
 
--- LOST slice-aggregate-text : tie.Need-slice-aggregate-text
--- LOST slice-aggregate-text c = search rules
-
 pub returns : goal.returns
 unfolding value_text
 returns c =

@@ -6,7 +6,7 @@ use Rattle.receiving.specs.Receive.{taken}
 use Rattle.driver.specs.Registers.{whole, value, seen}
 use Prim.Native.Nat.{ℕ, suc, ◌+◌, ◌-◌}
 use lib.Seq.{sets}
-use lib.ListN.{set}
+use lib.ListN.{length, set}
 use mathlib.Core.List.{List}
 use Rattle.state.specs.State.{Model}
 use Rattle.driver.proofs.Accesses.{parted}
@@ -24,40 +24,21 @@ module _ (k at : ℕ) (p : List ℕ) (m : Model) (r : ReadOut) (e : r ≡ read_o
   unfolding taken seen
   turn_model = rw e
 
-pub loop-i-init : goal.loop-i-init
-loop-i-init c =
-    let e : c.args.at + 0 ≡ c.args.at = omega arith in
-    let f : c.args.count - 0 ≡ c.args.count = omega arith in
-    (omega arith, rw (e, f), rw f)
-
-pub overflow_cast-packet : goal.overflow_cast-packet
-overflow_cast-packet c = omega (arith, c.ranges.count)
-
-pub overflow_add-packet : goal.overflow_add-packet
-overflow_add-packet c = omega arith
-
-pub bounds-packet-at : goal.bounds-packet-at
-bounds-packet-at c = omega arith
-
-pub overflow_add-i : goal.overflow_add-i
-overflow_add-i c = omega (arith, c.ranges.count)
-
-pub loop-i-preserved : goal.loop-i-preserved
-loop-i-preserved c =
+pub loop-place-preserved : goal.loop-place-preserved
+loop-place-preserved c =
     let a : _ = c.args in
-    let l : _ = c.loop-i in
+    let l : _ = c.loop-place in
+    let n : ℕ = length a.places.now in
     let m : Model = whole l.c a.memory.now in
-    let e : a.count - l.i ≡ suc (a.count - (l.i + 1)) = omega arith in
-    let f : a.at + (l.i + 1) ≡ suc (a.at + l.i) = omega arith in (
-      omega arith,
-      rw f (turn_bytes _ _ l.packet m _ c.read-r.ensures ∙ rw (← e) l.invariant.1),
-      turn_model _ a.at l.packet m _ c.read-r.ensures ∙ rw (← e) l.invariant.2,
+    let e : n - l.place-index ≡ suc (n - suc l.place-index) = omega arith in
+    let f : l.place-index + 1 ≡ suc l.place-index = omega arith in (
+      rw f (turn_bytes _ _ l.places m _ c.read-r.ensures ∙ rw e at l.invariant.0),
+      rw f (turn_model _ 0 l.places m _ c.read-r.ensures ∙ rw e at l.invariant.1),
     )
 
 pub returns : goal.returns
 unfolding taken
 returns c =
-    let a : _ = c.args in
-    let l : _ = c.loop-i in
-    let e : a.count - l.i ≡ 0 = omega arith in
-    record { left = parted (rw e at l.invariant.2); packet = rw e at l.invariant.1 }
+    let l : _ = c.loop-place in
+    let e : length c.args.places.now - l.place-index ≡ 0 = omega arith in
+    record { left = parted (rw e at l.invariant.1); packet = rw e at l.invariant.0 }

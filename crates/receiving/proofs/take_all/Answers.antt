@@ -2,29 +2,37 @@
 -- Assumes nothing.
 use native.Mathlib.Omega.{arith}
 use mathlib.Core.Path.{◌≡◌}
-use Rattle.receiving.proofs.Rounds.{all_left, round_left, round_less, none_left}
+use mathlib.Core.List.{List}
+use Prim.Native.Nat.{ℕ, ◌+◌, ◌-◌, ◌≤◌}
+use lib.ListN.{length}
+use borrow.Rule.Slice.PartMut.{mid_of, put_mid}
+use Rattle.state.specs.declared.Chip.{Chip}
+use Rattle.state.specs.State.{Model}
+use Rattle.receiving.specs.Receive.{Taking, taken, Fills}
+use Rattle.receiving.proofs.Rounds.{Rest, part_fills, round_left, round_less, none_left}
 use Rattle.driver.proofs.Accesses.{parted}
 use Rattle.receiving.proofs.take_all.Goals as goal
 
-pub loop-shown-init : goal.loop-shown-init
-loop-shown-init c = all_left _ _ c.requires
-
-pub take-c-requires : goal.take-c-requires
-take-c-requires c = omega (arith, c.loop-shown.invariant.room, c.loop-shown.invariant.shows)
-
-pub overflow_cast-got : goal.overflow_cast-got
-overflow_cast-got c = omega (arith, c.loop-shown.invariant.shows)
-
-pub overflow_add-got : goal.overflow_add-got
-overflow_add-got c = omega (arith, c.loop-shown.invariant.room, c.loop-shown.invariant.shows)
+-- the round's bytes, in the part of the packet that `take` got
+module _ {all : Taking} {m : Model} {packet places : List ℕ} {got shown : ℕ} {c : Chip} (l : Rest all m packet got shown) (size : length packet ≡ 64)
+    (f : Fills (taken (length (mid_of got (got + shown - got) packet)) m) 0 m.memory (mid_of got (got + shown - got) packet) c places) where
+  filled : Fills (taken shown m) got m.memory packet c (put_mid got (got + shown - got) packet places)
+  filled =
+      let room : got + shown ≤ length packet = omega (arith, l.room, l.shows, size) in
+      let e : got + shown - got ≡ shown = omega arith in
+      part_fills packet got shown (got + shown - got) room e m f
 
 pub loop-shown-smaller : goal.loop-shown-smaller
 loop-shown-smaller c =
-    round_less c.loop-shown.invariant c.loop-shown-test.true c.take-c.ensures c.read-r.ensures
+    let l : _ = c.loop-shown.invariant in
+    let t : _ = c.loop-shown-test in
+    round_less l t.true (filled l t.array_long c.take-c.ensures) c.read-r.ensures
 
 pub loop-shown-preserved : goal.loop-shown-preserved
 loop-shown-preserved c =
-    round_left c.loop-shown.invariant c.loop-shown-test.true c.take-c.ensures c.read-r.ensures
+    let l : _ = c.loop-shown.invariant in
+    let t : _ = c.loop-shown-test in
+    round_left l t.true (filled l t.array_long c.take-c.ensures) c.read-r.ensures
 
 pub returns : goal.returns
 returns c =

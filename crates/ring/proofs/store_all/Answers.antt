@@ -1,6 +1,6 @@
 -- `store_all` meets its contract: what is left to store, stored into the memory as it is now, gives the whole.
 -- Assumes nothing.
-use Rattle.std.proofs.Common.{◌≡◌, ℕ, ◌+◌, ◌<◌, List, length, get_or, drop, refl, add-one, arith, drop-cons}
+use Rattle.std.proofs.Common.{◌≡◌, ℕ, ◌+◌, ◌<◌, List, length, get_or, drop, add-one, arith, drop-cons}
 use Rattle.ring.specs.Ring.{next, store, store_all}
 use lib.Seq.{drop-length}
 use Rattle.ring.proofs.store_all.Goals as goal
@@ -11,19 +11,16 @@ turn : (start size : ℕ) (memory s : List ℕ) (at i : ℕ) → i < length s
 unfolding store_all
 turn start size memory s at i h = rw (drop-cons s i 0, add-one i)
 
-pub loop-i-init : goal.loop-i-init
-loop-i-init c = (omega arith, omega (arith, c.ranges.counter), refl)
-
-pub loop-i-preserved : goal.loop-i-preserved
-loop-i-preserved c =
-    let e : c.next-at.result ≡ next c.loop-i.at = omega arith in (
+pub loop-b-preserved : goal.loop-b-preserved
+loop-b-preserved c =
+    let e : c.next-counter.result ≡ next c.loop-b.counter = c.next-counter.ensures in (
       omega arith,
       omega arith,
-      rw (e, c.store.ensures, ← turn _ _ _ _ _ _ c.loop-i-test.true) c.loop-i.invariant.2,
+      rw (e, c.store.ensures, ← turn _ _ _ _ _ _ c.loop-b-test.true) c.loop-b.invariant.2,
     )
 
 pub returns : goal.returns
 unfolding store_all
 returns c =
-    let e : c.loop-i.i ≡ length c.args.s.now = omega arith in
-    record { counter_after = omega arith; bytes = rw (e, drop-length) at c.loop-i.invariant.2 }
+    let e : c.loop-b.b-index ≡ length c.args.s.now = omega arith in
+    record { counter_after = omega arith; bytes = rw (e, drop-length) at c.loop-b.invariant.2 }

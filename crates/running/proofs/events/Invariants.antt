@@ -1,14 +1,13 @@
 -- `events` meets its contract: each turn leaves the same run.
 -- Assumes nothing.
 use Rattle.running.proofs.Turns.{Turned}
-use Rattle.running.specs.Run.{running}
-use Rattle.running.specs.Output.{spot_at}
+use Rattle.running.specs.Run.{under_way}
 use lib.ListN.{length}
 use Prim.Native.Nat.{◌-◌}
 use Rattle.running.proofs.events.Given as goal
 
-abbrev pub invariant-loop-place : goal.invariant-loop-place
-invariant-loop-place l = Turned l.s (running (spot_at l.initial.chip l.initial.memory l.at l.number) l.initial.out 0) (running (spot_at l.chip l.memory l.place l.n) l.out l.written)
+abbrev pub invariant-loop-event : goal.invariant-loop-event
+invariant-loop-event l = Turned l.s (under_way l.fn.run l.initial.memory l.initial.out) (under_way l.run l.memory l.out)
 
-abbrev pub decreases-loop-place : goal.decreases-loop-place
-decreases-loop-place l = length l.s - l.place
+abbrev pub decreases-loop-event : goal.decreases-loop-event
+decreases-loop-event l = length l.s - l.run.place

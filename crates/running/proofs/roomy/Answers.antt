@@ -1,20 +1,17 @@
--- `roomy` meets its contract: room first, then a number.
+-- `roomy` meets its contract: what is left of the buffer is long enough where what is written and a line end within it.
 -- Assumes nothing.
-use Prim.Native.Nat.{◌+◌}
-use lib.ListN.{length}
+use Rattle.std.proofs.Common.{◌≡◌, ◌+◌, false, leb, length, arith}
+use borrow.Author.Tests.{le-leb, lt-leb}
 use Rattle.running.specs.Run.{fits}
-use native.Mathlib.Omega.{arith}
-use borrow.Author.Tests.{lt-leb, le-leb}
 use Rattle.running.proofs.roomy.Goals as goal
 
-pub returns-then-out-lt-LONGEST : goal.returns-then-out-lt-LONGEST
+pub returns-then-saturating_sub-ge-LONGEST : goal.returns-then-saturating_sub-ge-LONGEST
 unfolding fits
-returns-then-out-lt-LONGEST c = rw (lt-leb (c.args.written + 158) (length c.args.out.now) (omega (arith, c.if-out-lt-LONGEST.true)))
+returns-then-saturating_sub-ge-LONGEST c =
+    rw (le-leb (c.args.run.written + 158) (length c.args.out.now) (omega (arith, c.saturating_sub.ensures, c.if-saturating_sub-ge-LONGEST.true)))
 
-pub returns-then-out-written : goal.returns-then-out-written
+pub returns-else-saturating_sub-ge-LONGEST : goal.returns-else-saturating_sub-ge-LONGEST
 unfolding fits
-returns-then-out-written c = rw (lt-leb (c.args.written + 158) (length c.args.out.now) (omega (arith, c.if-out-written.true, c.if-out-lt-LONGEST.false)))
-
-pub returns : goal.returns
-unfolding fits
-returns c = rw (le-leb (c.args.written + 158) (length c.args.out.now) (omega (arith, c.if-out-written.false, c.if-out-lt-LONGEST.false)))
+returns-else-saturating_sub-ge-LONGEST c =
+    let no : leb (c.args.run.written + 158) (length c.args.out.now) ≡ false = lt-leb _ _ (omega (arith, c.saturating_sub.ensures, c.if-saturating_sub-ge-LONGEST.false)) in
+    rw no (lt-leb _ _ c.if-saturating_sub-ge-LONGEST.false)

@@ -12,6 +12,7 @@ use Rattle.trace.specs.Number.{number_from}
 use borrow.Author.Tests.{lt-ltb, le-ltb, le-leb, lt-leb, eq-eqb, ne_eqb}
 use Rattle.choice.specs.Choice.{pick}
 use Rattle.trace.proofs.fields.number.Goals as goal
+use Rattle.trace.proofs.fields.number.Goals.{then-high-eq0-via-then-high-eq0, then-high-eq0-via-else-high-eq0+then-high-ge128}
 
 -- the bytes from a place on: none, the last one, or two and the others
 none : (s : List ℕ) (at : ℕ) → length s ≤ at → drop at s ≡ []
@@ -23,33 +24,52 @@ single s at h l = rw (drop-cons s at 0 h, ← add-one at, none s (at + 1) l)
 double : (s : List ℕ) (at : ℕ) → at + 1 < length s → drop at s ≡ get_or s at 0 ∷ get_or s (at + 1) 0 ∷ drop (suc (at + 1)) s
 double s at h = let l : at < length s = omega arith in rw (drop-cons s at 0 l, ← add-one at, drop-cons s (at + 1) 0 h)
 
-pub returns-then-s-at : goal.returns-then-s-at
+pub returns-in_default : goal.returns-in_default
 unfolding number_from pick
-returns-then-s-at c = rw (none _ _ c.if-s-at.true)
+returns-in_default c =
+    let past : length c.args.s.now ≤ c.args.at = grind arith in
+    rw (none _ _ past)
 
 pub returns-then-low-lt128 : goal.returns-then-low-lt128
-returns-then-low-lt128 c = rw (drop-cons c.args.s.now c.args.at 0 c.if-s-at.false) (sym (one_byte _ _ _ (lt-ltb _ _ c.if-low-lt128.true)))
+returns-then-low-lt128 c =
+    let s = c.args.s.now in
+    let at = c.args.at in
+    let before : at < length s = grind arith in
+    let low : c.from.result ≡ get_or s at 0 = grind arith in
+    let small : get_or s at 0 < 128 = grind arith in
+    rw (low, drop-cons s at 0 before) (sym (one_byte _ _ _ (lt-ltb _ _ small)))
 
-pub returns-then-s-second : goal.returns-then-s-second
+pub returns-in_default-get : goal.returns-in_default-get
 unfolding number_from pick
-returns-then-s-second c = rw (single _ _ c.if-s-at.false c.if-s-second.true, le-ltb _ _ c.if-low-lt128.false)
+returns-in_default-get c =
+    let s = c.args.s.now in
+    let at = c.args.at in
+    let before : at < length s = grind arith in
+    let past : length s ≤ at + 1 = grind arith in
+    let large : 128 ≤ get_or s at 0 = grind arith in
+    rw (single _ _ before past, le-ltb _ _ large)
 
 pub returns-then-high-eq0 : goal.returns-then-high-eq0
 unfolding number_from pick
-returns-then-high-eq0 c = rw (double _ _ c.if-s-second.false, le-ltb _ _ c.if-low-lt128.false, eq-eqb _ _ c.if-high-eq0.true)
-
-pub returns-then-high-ge128 : goal.returns-then-high-ge128
-unfolding number_from pick
-returns-then-high-ge128 c = rw (double _ _ c.if-s-second.false, le-ltb _ _ c.if-low-lt128.false, ne_eqb _ _ c.if-high-eq0.false, le-leb _ _ c.if-high-ge128.true)
-
-pub overflow_cast-result-2 : goal.overflow_cast-result-2
-overflow_cast-result-2 c = omega (arith, c.shared_slice_known-1.given c.args.at)
-
-pub overflow_add-result : goal.overflow_add-result
-overflow_add-result c = omega (arith, c.shared_slice_known-1.given c.args.at)
+returns-then-high-eq0 c =
+    let s = c.args.s.now in
+    let at = c.args.at in
+    let before : at + 1 < length s = grind arith in
+    let large : 128 ≤ get_or s at 0 = grind arith in
+    let high : get_or s (at + 1) 0 ≡ c.in-Some-get.field-0.now = grind arith in
+    elim c.then-high-eq0.branch [
+      | then-high-eq0-via-then-high-eq0 w ↦ rw (double _ _ before, le-ltb _ _ large, high, eq-eqb _ _ w.if-high-eq0.true)
+      | then-high-eq0-via-else-high-eq0+then-high-ge128 w ↦
+          rw (double _ _ before, le-ltb _ _ large, high, ne_eqb _ _ w.if-high-eq0.false, le-leb _ _ w.if-high-ge128.true)
+    ]
 
 pub returns : goal.returns
 unfolding number_from pick
 returns c =
-    let e : c.args.at + 1 + 1 ≡ c.args.at + 2 = omega arith in
-    rw (e, double _ _ c.if-s-second.false, le-ltb _ _ c.if-low-lt128.false, ne_eqb _ _ c.if-high-eq0.false, lt-leb _ _ c.if-high-ge128.false)
+    let s = c.args.s.now in
+    let at = c.args.at in
+    let before : at + 1 < length s = grind arith in
+    let large : 128 ≤ get_or s at 0 = grind arith in
+    let low : get_or s at 0 ≡ c.in-Some.field-0.now = grind arith in
+    let high : get_or s (at + 1) 0 ≡ c.in-Some-get.field-0.now = grind arith in
+    rw (c.from-2.ensures, c.from-3.ensures, double _ _ before, le-ltb _ _ large, high, ne_eqb _ _ c.if-high-eq0.false, lt-leb _ _ c.if-high-ge128.false, low)

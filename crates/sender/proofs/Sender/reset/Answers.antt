@@ -1,6 +1,0 @@
--- `Sender::reset` meets its contract, from those of its parts.
--- Assumes nothing.
-use Rattle.sender.proofs.Sender.reset.Goals as goal
-
-pub returns : goal.returns
-returns c = rw (c.reset-fifo.ensures, c.reset-epc.ensures)

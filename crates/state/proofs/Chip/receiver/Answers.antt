@@ -1,6 +1,0 @@
--- `Chip::receiver` meets its contract: the FIFO's index finds it.
--- Assumes nothing.
-use Rattle.state.proofs.Chip.receiver.Goals as goal
-
-pub returns : goal.returns
-returns c = rw c.index-i.ensures.0

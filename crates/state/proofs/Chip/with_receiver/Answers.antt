@@ -1,6 +1,0 @@
--- `Chip::with_receiver` meets its contract: the FIFO's index finds its place.
--- Assumes nothing.
-use Rattle.state.proofs.Chip.with_receiver.Goals as goal
-
-pub returns : goal.returns
-returns c = rw c.index-i.ensures.0

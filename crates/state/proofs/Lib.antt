@@ -1,0 +1,2 @@
+-- The lemmas that the proofs here cite.
+mod Default

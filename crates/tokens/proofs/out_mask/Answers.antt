@@ -1,8 +1,0 @@
--- `out_mask` meets its contract, from those of its parts.
--- Assumes nothing.
-use Rattle.tokens.specs.Tokens.{out_mask}
-use Rattle.tokens.proofs.out_mask.Goals as goal
-
-pub returns : goal.returns
-unfolding out_mask
-returns c = rw (c.bit-z.ensures.0, c.bit-x.ensures.0, c.bit-y.ensures.0, c.bit-w.ensures.0, c.zero_takes.ensures, c.receiver_takes.ensures, c.receiver_takes-2.ensures, c.receiver_takes-3.ensures)
