@@ -113,19 +113,19 @@ impl Device {
     }
 }
 
-// What a call did, in a word.
+// What a call did, in a word that goes out with its line's end in one write, or why it is refused.
 fn told<W: Write>(to: &mut W, did: Result<Did, Refusal>) -> io::Result<()> {
-    let word = match did {
-        Ok(Did::Done) => "ok",
-        Ok(Did::Nothing) => "nothing",
-        Ok(Did::Delivered) => "delivered",
-        Ok(Did::Resent) => "resent",
-        Ok(Did::Taken) => "taken",
-        Ok(Did::Flushed) => "flushed",
-        Ok(Did::Repeat) => "repeat",
+    let line = match did {
+        Ok(Did::Done) => "ok\n",
+        Ok(Did::Nothing) => "nothing\n",
+        Ok(Did::Delivered) => "delivered\n",
+        Ok(Did::Resent) => "resent\n",
+        Ok(Did::Taken) => "taken\n",
+        Ok(Did::Flushed) => "flushed\n",
+        Ok(Did::Repeat) => "repeat\n",
         Err(why) => return writeln!(to, "refuse {}", why.number()),
     };
-    writeln!(to, "{word}")
+    to.write_all(line.as_bytes())
 }
 
 // A packet's bytes in hex, `-` for none.
