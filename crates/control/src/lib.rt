@@ -36,7 +36,10 @@ impl Control {
     pub fn reset() -> Control
         ensures { result ≡ reset_control }
     {
-        Control::default()
+        Control {
+            fifo: Fifo0::reset(),
+            ..Control::default()
+        }
     }
 
     // Whether it is well formed in or outside the operational state.

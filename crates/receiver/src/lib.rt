@@ -32,7 +32,11 @@ impl Receiver {
     pub fn reset() -> Receiver
         ensures { result ≡ reset_receiver }
     {
-        Receiver::default()
+        Receiver {
+            fifo: RxFifo::reset(),
+            epc: Epc::reset(),
+            ..Receiver::default()
+        }
     }
 
     // What a read of RXS shows.

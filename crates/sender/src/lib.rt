@@ -40,7 +40,11 @@ impl Sender {
     pub fn reset() -> Sender
         ensures { result ≡ reset_sender }
     {
-        Sender::default()
+        Sender {
+            fifo: TxFifo::reset(),
+            epc: Epc::reset(),
+            ..Sender::default()
+        }
     }
 
     // What a read of TXS shows.

@@ -126,7 +126,13 @@ impl Chip {
     pub fn reset() -> Chip
         ensures { result ≡ reset_chip }
     {
-        Chip::default()
+        Chip {
+            control: Control::reset(),
+            senders: [Sender::reset(); 3],
+            receivers: [Receiver::reset(); 3],
+            pending: Pending::idle(),
+            ..Chip::default()
+        }
     }
 
     // The endpoint that sends from a FIFO, and the chip with another in its place.
