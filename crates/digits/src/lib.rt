@@ -24,6 +24,7 @@ pub fn put(out: &mut [u8], at: usize, i: usize, b: u8)
 }
 
 // Writes a stretch of bytes.
+#[tactic(auto, using(crate::proofs::Places::first_byte))]
 pub fn text(out: &mut [u8], at: usize, i: usize, s: &[u8])
     ensures { out.new ≡ overlay (at + i) s.now out.old }
 {

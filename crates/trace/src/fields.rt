@@ -7,6 +7,7 @@ ghost use Rattle.trace.specs.Meaning.{taken_of, fields_of};
 use refusal::Refusal;
 
 // The number at a place: one byte, or two of which the second is neither 0 nor has its top bit set.
+#[tactic(auto, using(crate::proofs::Numbers::by_bytes))]
 pub fn number(s: &[u8], at: usize) -> Result<(u16, usize), Refusal>
     ensures { taken_of result ≡ number_at s.now at }
 {
@@ -26,6 +27,7 @@ pub fn number(s: &[u8], at: usize) -> Result<(u16, usize), Refusal>
 }
 
 // The fields at a place, each at most its limit.
+#[tactic(auto, using(crate::proofs::Join::one_by_one), unfolding(crate::proofs::Join::prepend, crate::specs::Record::field, choice::specs::Choice::pick))]
 pub fn fields_at<const N: usize>(
     s: &[u8],
     at: usize,

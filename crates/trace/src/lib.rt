@@ -102,6 +102,7 @@ fn token_at(s: &[u8], at: usize) -> Result<(Token, usize), Refusal>
     Ok((Token { address, endpoint }, next))
 }
 
+#[tactic(auto, using(crate::proofs::Within::some_fields_within), unfolding(crate::specs::Record::body_at, event::specs::Event::event_of, event::specs::Event::count_of, choice::specs::Choice::pick))]
 fn data_record(s: &[u8], next: usize) -> Result<(Event, Span), Refusal>
     ensures { (at : ℕ) → told at result ≡ body_at s.now at 6 (fields_at s.now next (1 ∷ 1 ∷ 64 ∷ [])) }
 {
